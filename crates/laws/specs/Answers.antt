@@ -1,0 +1,12 @@
+-- What a call of the model gives (document 01, "Numbers of refusal"): an answer, or the number of a refusal and nothing else.
+-- The enum of each call is read as one of these, so that one set of laws serves them all. Assumes nothing.
+use Prim.Native.Nat.{ℕ, zero, suc}
+
+pub data Answer (A : Type 0) : Type 0 where
+  accepted : A → Answer A
+  refused : ℕ → Answer A
+
+-- what is given where the call's refusal number is n: the value where that is 0 (no condition holds), else the number only
+unfoldable pub judged : {A : Type 0} → ℕ → A → Answer A
+judged zero a = accepted a
+judged (suc n) a = refused (suc n)

@@ -1,0 +1,100 @@
+-- Numbered conditions (document 01, "Numbers of refusal"): "The lowest number that applies to the call is given."
+-- A call's judgement is a list of cases, each a condition with its number; lists join by ++. Assumes nothing.
+use mathlib.Core.Path.{_≡_, refl, sym, ap, _∙_}
+use mathlib.Core.Bool.{Bool, true, false, cond, _&&_}
+use mathlib.Core.List.{List, [], _∷_}
+use mathlib.Core.Logic.{_⊎_, inl, inr, ⊎-elim}
+use Prim.Native.Nat.{ℕ, zero, suc, min, _<_, _≤_}
+use native.Mathlib.Nat.{lt-trans}
+use native.Mathlib.Omega.{arith}
+use lib.Dec.{ltb, ltb→lt, T}
+use Rattle.laws.specs.Booleans.{and-left, and-right}
+
+pub record Case : Type 0 where
+  pub number : ℕ
+  pub holds : Bool
+
+infix 70 _when_
+abbrev pub _when_ : ℕ → Bool → Case
+n when b = record { number = n; holds = b }
+
+-- the lower of two refusal numbers, where 0 is no refusal
+unfoldable pub lower : ℕ → ℕ → ℕ
+lower zero n = n
+lower (suc m) zero = suc m
+lower (suc m) (suc n) = min (suc m) (suc n)
+
+-- the lowest number whose condition holds, 0 where none does
+unfoldable pub lowest : List Case → ℕ
+lowest [] = 0
+lowest (c ∷ cs) = cond (c .holds) (lower (c .number) (lowest cs)) (lowest cs)
+
+-- ---- the first that holds, which is how a program looks for the lowest
+
+-- the number of the first condition that holds, 0 where none does
+unfoldable pub first : List Case → ℕ
+first [] = 0
+first (c ∷ cs) = cond (c .holds) (c .number) (first cs)
+
+-- the numbers rise, each above n
+abbrev pub ascending : ℕ → List Case → Bool
+ascending n [] = true
+ascending n (c ∷ cs) = ltb n (c .number) && ascending (c .number) cs
+
+lower-keeps : (n m : ℕ) → 0 < n → (m ≡ 0) ⊎ (n < m) → lower n m ≡ n
+unfolding lower
+lower-keeps zero m h o = omega arith
+lower-keeps (suc n) zero h o = refl
+lower-keeps (suc n) (suc m) h o = ⊎-elim (λ e. omega arith) (λ l. omega arith) o
+
+first-above : (n : ℕ) (cs : List Case) → T (ascending n cs) → (first cs ≡ 0) ⊎ (n < first cs)
+unfolding first
+first-above n [] t = inl refl
+first-above n (c ∷ cs) t = go (c .holds) (first-above (c .number) cs (and-right (ltb n (c .number)) _ t))
+  where
+    above : n < c .number
+    above = ltb→lt n (c .number) (and-left (ltb n (c .number)) _ t)
+
+    go : (b : Bool) → (first cs ≡ 0) ⊎ (c .number < first cs) → (cond b (c .number) (first cs) ≡ 0) ⊎ (n < cond b (c .number) (first cs))
+    go true o = inr above
+    go false (inl e) = inl e
+    go false (inr l) = inr (lt-trans above l)
+
+-- in an ascending list the first condition that holds has the lowest number
+pub lowest-of-ascending-is-first : (n : ℕ) (cs : List Case) → T (ascending n cs) → lowest cs ≡ first cs
+unfolding lowest first
+lowest-of-ascending-is-first n [] t = refl
+lowest-of-ascending-is-first n (c ∷ cs) t = go (c .holds) (lowest-of-ascending-is-first (c .number) cs rest)
+  where
+    above : n < c .number
+    above = ltb→lt n (c .number) (and-left (ltb n (c .number)) _ t)
+
+    rest : T (ascending (c .number) cs)
+    rest = and-right (ltb n (c .number)) _ t
+
+    go : (b : Bool) → lowest cs ≡ first cs → cond b (lower (c .number) (lowest cs)) (lowest cs) ≡ cond b (c .number) (first cs)
+    go true e = ap (lower (c .number)) e ∙ lower-keeps (c .number) (first cs) (omega (arith, above)) (first-above (c .number) cs rest)
+    go false e = e
+
+-- ---- what acceptance says
+
+-- no condition of the list holds
+abbrev pub NoneHolds : List Case → Type 0
+NoneHolds [] = Unit
+NoneHolds (c ∷ cs) = (c .holds ≡ false) × NoneHolds cs
+
+first-none : (n : ℕ) (cs : List Case) → T (ascending n cs) → first cs ≡ 0 → NoneHolds cs
+unfolding first
+first-none n [] t e = tt
+first-none n (c ∷ cs) t e = go (c .holds) (first-none (c .number) cs (and-right (ltb n (c .number)) _ t)) e
+  where
+    above : n < c .number
+    above = ltb→lt n (c .number) (and-left (ltb n (c .number)) _ t)
+
+    go : (b : Bool) → (first cs ≡ 0 → NoneHolds cs) → cond b (c .number) (first cs) ≡ 0 → (b ≡ false) × NoneHolds cs
+    go true f z = absurd (omega (arith, above, z))
+    go false f z = (refl, f z)
+
+-- where the lowest number is 0, no condition holds
+pub lowest-zero-none-holds : (n : ℕ) (cs : List Case) → T (ascending n cs) → lowest cs ≡ 0 → NoneHolds cs
+lowest-zero-none-holds n cs t e = first-none n cs t (sym (lowest-of-ascending-is-first n cs t) ∙ e)

@@ -1,0 +1,39 @@
+-- `Words::reserved_bit` meets its contract: the reserved parts, joined, hold a 1 where one of them does. Assumes nothing.
+use borrow.Author.Needs.{needs}
+use Rattle.laws.specs.Shifts.{some-bit, some-bit-or, some-bit-never}
+use Rattle.registers.specs.Fields.{reservedBit}
+use Rattle.registers.proofs.Words.reserved_bit.Statement.{statement}
+use Rattle.registers.proofs.Words.reserved_bit.Tie as tie
+
+returns : tie.Need-returns
+unfolding reservedBit
+returns c =
+    let c7 = c .before in
+    let c6 = c7 .before in
+    let c5 = c6 .before in
+    let c4 = c5 .before in
+    let c3 = c4 .before in
+    let c2 = c3 .before in
+    let c1 = c2 .before in
+    let lcdcon1-2 = some-bit-never (some-bit (c1 .cut .ensures)) in
+    let lcdcon3 = some-bit-or lcdcon1-2 (some-bit (c2 .cut2 .ensures)) in
+    let lcdcon4 = some-bit-or lcdcon3 (some-bit (c3 .cut3 .ensures)) in
+    let lcdcon5 = some-bit-or lcdcon4 (some-bit (c4 .cut4 .ensures)) in
+    let lcdsaddr1 = some-bit-or lcdcon5 (some-bit (c5 .cut5 .ensures)) in
+    let lcdsaddr2 = some-bit-or lcdsaddr1 (some-bit (c6 .cut6 .ensures)) in
+    let lcdsaddr3 = some-bit-or lcdsaddr2 (some-bit (c7 .cut7 .ensures)) in
+    some-bit-or lcdsaddr3 (some-bit (c .cut8 .ensures)) .says
+
+pub reserved-bit-spec : {M : Type 1} → statement M
+reserved-bit-spec =
+    tie.close
+    (tie.spec
+    (λ c κs. search needs)
+    (λ c κs. search needs)
+    (λ c κs. search needs)
+    (λ c κs. search needs)
+    (λ c κs. search needs)
+    (λ c κs. search needs)
+    (λ c κs. search needs)
+    (λ c κs. search needs)
+    returns)

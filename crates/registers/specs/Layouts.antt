@@ -1,0 +1,157 @@
+-- The nine words bit by bit (document 01, "The nine words"), in the paper's order and with its numbers: each field once, by its
+-- highest and lowest bit, and each word as one list from bit 31 down. "All other bits are reserved." Assumes nothing.
+use mathlib.Core.List.{List, [], _∷_}
+use mathlib.Core.Bool.{_&&_}
+use lib.Dec.{T}
+use Rattle.laws.specs.BitFields.{Part, free, readOnly, reserved, tiles}
+
+-- LCDCON1: LINECNT 27..18 (read-only), CLKVAL 17..8, MMODE 7, PNRMODE 6..5, BPPMODE 4..1, ENVID 0.
+abbrev pub LINECNT : Part
+LINECNT = readOnly 27 18
+
+abbrev pub CLKVAL : Part
+CLKVAL = free 17 8
+
+abbrev pub MMODE : Part
+MMODE = free 7 7
+
+abbrev pub PNRMODE : Part
+PNRMODE = free 6 5
+
+abbrev pub BPPMODE : Part
+BPPMODE = free 4 1
+
+abbrev pub ENVID : Part
+ENVID = free 0 0
+
+abbrev pub LCDCON1 : List Part
+LCDCON1 = reserved 31 28 ∷ LINECNT ∷ CLKVAL ∷ MMODE ∷ PNRMODE ∷ BPPMODE ∷ ENVID ∷ []
+
+-- LCDCON2: VBPD 31..24, LINEVAL 23..14, VFPD 13..6, VSPW 5..0.
+abbrev pub VBPD : Part
+VBPD = free 31 24
+
+abbrev pub LINEVAL : Part
+LINEVAL = free 23 14
+
+abbrev pub VFPD : Part
+VFPD = free 13 6
+
+abbrev pub VSPW : Part
+VSPW = free 5 0
+
+abbrev pub LCDCON2 : List Part
+LCDCON2 = VBPD ∷ LINEVAL ∷ VFPD ∷ VSPW ∷ []
+
+-- LCDCON3: HBPD 25..19, HOZVAL 18..8, HFPD 7..0.
+abbrev pub HBPD : Part
+HBPD = free 25 19
+
+abbrev pub HOZVAL : Part
+HOZVAL = free 18 8
+
+abbrev pub HFPD : Part
+HFPD = free 7 0
+
+abbrev pub LCDCON3 : List Part
+LCDCON3 = reserved 31 26 ∷ HBPD ∷ HOZVAL ∷ HFPD ∷ []
+
+-- LCDCON4: MVAL 15..8, HSPW 7..0.
+abbrev pub MVAL : Part
+MVAL = free 15 8
+
+abbrev pub HSPW : Part
+HSPW = free 7 0
+
+abbrev pub LCDCON4 : List Part
+LCDCON4 = reserved 31 16 ∷ MVAL ∷ HSPW ∷ []
+
+-- LCDCON5: VSTATUS 16..15 and HSTATUS 14..13 (read-only), BPP24BL 12, FRM565 11, INVVCLK 10, INVVLINE 9, INVVFRAME 8, INVVD 7, INVVDEN 6, INVPWREN 5, INVLEND 4, PWREN 3, ENLEND 2, BSWP 1, HWSWP 0.
+abbrev pub VSTATUS : Part
+VSTATUS = readOnly 16 15
+
+abbrev pub HSTATUS : Part
+HSTATUS = readOnly 14 13
+
+abbrev pub BPP24BL : Part
+BPP24BL = free 12 12
+
+abbrev pub FRM565 : Part
+FRM565 = free 11 11
+
+abbrev pub INVVCLK : Part
+INVVCLK = free 10 10
+
+abbrev pub INVVLINE : Part
+INVVLINE = free 9 9
+
+abbrev pub INVVFRAME : Part
+INVVFRAME = free 8 8
+
+abbrev pub INVVD : Part
+INVVD = free 7 7
+
+abbrev pub INVVDEN : Part
+INVVDEN = free 6 6
+
+abbrev pub INVPWREN : Part
+INVPWREN = free 5 5
+
+abbrev pub INVLEND : Part
+INVLEND = free 4 4
+
+abbrev pub PWREN : Part
+PWREN = free 3 3
+
+abbrev pub ENLEND : Part
+ENLEND = free 2 2
+
+abbrev pub BSWP : Part
+BSWP = free 1 1
+
+abbrev pub HWSWP : Part
+HWSWP = free 0 0
+
+abbrev pub LCDCON5 : List Part
+LCDCON5 = reserved 31 17 ∷ VSTATUS ∷ HSTATUS ∷ BPP24BL ∷ FRM565 ∷ INVVCLK ∷ INVVLINE ∷ INVVFRAME ∷ INVVD ∷ INVVDEN ∷ INVPWREN ∷ INVLEND ∷ PWREN ∷ ENLEND ∷ BSWP ∷ HWSWP ∷ []
+
+-- LCDSADDR1: LCDBANK 29..21, LCDBASEU 20..0.
+abbrev pub LCDBANK : Part
+LCDBANK = free 29 21
+
+abbrev pub LCDBASEU : Part
+LCDBASEU = free 20 0
+
+abbrev pub LCDSADDR1 : List Part
+LCDSADDR1 = reserved 31 30 ∷ LCDBANK ∷ LCDBASEU ∷ []
+
+-- LCDSADDR2: LCDBASEL 20..0.
+abbrev pub LCDBASEL : Part
+LCDBASEL = free 20 0
+
+abbrev pub LCDSADDR2 : List Part
+LCDSADDR2 = reserved 31 21 ∷ LCDBASEL ∷ []
+
+-- LCDSADDR3: OFFSIZE 21..11, PAGEWIDTH 10..0.
+abbrev pub OFFSIZE : Part
+OFFSIZE = free 21 11
+
+abbrev pub PAGEWIDTH : Part
+PAGEWIDTH = free 10 0
+
+abbrev pub LCDSADDR3 : List Part
+LCDSADDR3 = reserved 31 22 ∷ OFFSIZE ∷ PAGEWIDTH ∷ []
+
+-- TPAL: TPALEN 24, TPALVAL 23..0.
+abbrev pub TPALEN : Part
+TPALEN = free 24 24
+
+abbrev pub TPALVAL : Part
+TPALVAL = free 23 0
+
+abbrev pub TPAL : List Part
+TPAL = reserved 31 25 ∷ TPALEN ∷ TPALVAL ∷ []
+
+-- each of the 32 bits of each word lies in one part
+pub each-bit-once : T (tiles 32 LCDCON1 && tiles 32 LCDCON2 && tiles 32 LCDCON3 && tiles 32 LCDCON4 && tiles 32 LCDCON5 && tiles 32 LCDSADDR1 && tiles 32 LCDSADDR2 && tiles 32 LCDSADDR3 && tiles 32 TPAL)
+each-bit-once = tt

@@ -1,0 +1,29 @@
+-- The nine words lent as a slice (document 01, "The nine words" and refusal 10 for "a slice short of nine words"). Assumes nothing.
+use mathlib.Core.Bool.{Bool}
+use mathlib.Core.List.{List, [], _∷_}
+use Prim.Native.Nat.{ℕ}
+use lib.Dec.{ltb}
+use lib.ListN.{length, getD}
+use Rattle.laws.specs.Answers.{Answer, accepted, refused, judged}
+use Rattle.laws.specs.Cases.{_when_, lowest}
+use Rattle.registers.specs.declared.Loaded.{Loaded}
+use Rattle.registers.specs.declared.Loaded.the-variants.{Nine, Refused}
+use Rattle.registers.specs.declared.Words.{Words}
+
+-- the paper's number and values of an answer
+abbrev pub loaded : Loaded → Answer Words
+loaded (Nine w) = accepted w
+loaded (Refused n) = refused n
+
+-- "In this order: LCDCON1 to LCDCON5, LCDSADDR1 to LCDSADDR3, TPAL."
+abbrev pub inOrder : List ℕ → Words
+inOrder s =
+    record { lcdcon1 = getD s 0 0; lcdcon2 = getD s 1 0; lcdcon3 = getD s 2 0; lcdcon4 = getD s 3 0; lcdcon5 = getD s 4 0; lcdsaddr1 = getD s 5 0; lcdsaddr2 = getD s 6 0; lcdsaddr3 = getD s 7 0; tpal = getD s 8 0 }
+
+-- 10: the slice is short of nine words
+unfoldable pub shortOfNine : List ℕ → Bool
+shortOfNine s = ltb (length s) 9
+
+-- what the slice gives
+unfoldable pub load : List ℕ → Answer Words
+load s = judged (lowest (10 when shortOfNine s ∷ [])) (inOrder s)
