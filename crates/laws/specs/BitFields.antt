@@ -132,6 +132,15 @@ next-fits p ps vs f =
 rest-fits : (p : Part) (ps : List Part) (vs : List ℕ) → tooWide (p ∷ ps) vs ≡ false → tooWide ps (rest (p .access) vs) ≡ false
 rest-fits p ps vs f = or-false-right (leb (2 ^ width p) (next (p .access) vs)) (tooWide ps (rest (p .access) vs)) f
 
+-- each value fits its part
+abbrev pub Fit : List Part → List ℕ → Type 0
+Fit [] vs = Unit
+Fit (p ∷ ps) vs = (next (p .access) vs < 2 ^ width p) × Fit ps (rest (p .access) vs)
+
+pub all-fit : (ps : List Part) (vs : List ℕ) → tooWide ps vs ≡ false → Fit ps vs
+all-fit [] vs f = tt
+all-fit (p ∷ ps) vs f = (next-fits p ps vs f, all-fit ps (rest (p .access) vs) (rest-fits p ps vs f))
+
 pub pack-lt : (n : ℕ) (ps : List Part) (vs : List ℕ) → T (tiles n ps) → tooWide ps vs ≡ false → pack ps vs < 2 ^ n
 pack-lt n [] vs t f = pow-pos n
 pack-lt n (p ∷ ps) vs t f =

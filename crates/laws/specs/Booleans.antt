@@ -1,6 +1,7 @@
 -- Laws of the tests true and false that the other files share. Assumes nothing.
 use mathlib.Core.Path.{_≡_, refl}
 use mathlib.Core.Bool.{Bool, true, false, _&&_, _||_, false≢true, true≢false}
+use mathlib.Core.List.{List, [], _∷_}
 use lib.Dec.{T}
 
 pub and-left : (a b : Bool) → T (a && b) → T a
@@ -25,3 +26,17 @@ or-false p q = rw (p, q)
 pub or-never : (a : Bool) → a || false ≡ a
 or-never true = refl
 or-never false = refl
+
+-- one of the tests is true
+abbrev pub any : List Bool → Bool
+any [] = false
+any (b ∷ bs) = b || any bs
+
+-- all of them are false
+abbrev pub AllFalse : List Bool → Type 0
+AllFalse [] = Unit
+AllFalse (b ∷ bs) = (b ≡ false) × AllFalse bs
+
+pub all-false : (bs : List Bool) → any bs ≡ false → AllFalse bs
+all-false [] e = tt
+all-false (b ∷ bs) e = (or-false-left b (any bs) e, all-false bs (or-false-right b (any bs) e))

@@ -1,13 +1,14 @@
 -- Shifts and masks of 32-bit numbers as arithmetic. Assumes nothing.
-use mathlib.Core.Bool.{Bool, false, _||_}
-use mathlib.Core.Path.{_≡_, ap, ap₂, sym, _∙_}
+use mathlib.Core.Bool.{Bool, true, false, _||_}
+use mathlib.Core.Path.{_≡_, refl, ap, ap₂, sym, _∙_}
 use Prim.Native.Nat.{ℕ, zero, suc, _+_, _-_, _*_, _/_, _%_, _^_, _<_, _≤_}
-use native.Mathlib.Nat.{one-mul}
+use native.Mathlib.Nat.{one-mul, le-of-eq, le-div-iff-mul-le, div-eq-of-lt}
 use native.Mathlib.Omega.{arith}
-use borrow.Author.Tests.{lt-ltb}
-use lib.Bits.{bitAnd, bitOr, and-mask, and-le-r, or-zero-l, or-add-and}
-use lib.Dec.{lit<, ltb}
-use lib.Pow.{shl-exact}
+use borrow.Author.Tests.{lt-ltb, le-ltb, leb-true, leb-false}
+use lib.Arith.{digits-lt}
+use lib.Bits.{bitAnd, bitOr, and-mask, and-le-r, or-zero-l, or-add-and, or-shifted}
+use lib.Dec.{lit<, ltb, leb}
+use lib.Pow.{shl-exact, pow-pos, pow-add}
 use Rattle.laws.specs.Booleans.{or-never}
 
 -- a 1 shifted to bit k
@@ -21,6 +22,23 @@ shift-and-mask w high low l h =
     ap (λ (m : ℕ). bitAnd (w / 2 ^ low) (m - 1)) (one-shifted (high - low + 1) (omega arith))
     ∙ and-mask (w / 2 ^ low) (high - low + 1)
     ∙ ap (λ (k : ℕ). w / 2 ^ low % 2 ^ k) (omega arith)
+
+-- a value of width bits shifted to bit low, over the bits below it
+pub shift-and-join : (v b width low : ℕ) → v < 2 ^ width → b < 2 ^ low → width + low ≤ 32
+    → bitOr ((v * 2 ^ low) % 2 ^ 32) b ≡ v * 2 ^ low + b
+shift-and-join v b width low hv hb h =
+    ap (λ (x : ℕ). bitOr x b) (shl-exact width low 32 hv h) ∙ or-shifted v low b hb
+
+pub joined-lt : (v b width low : ℕ) → v < 2 ^ width → b < 2 ^ low → v * 2 ^ low + b < 2 ^ (width + low)
+joined-lt v b width low hv hb = rw (pow-add 2 width low) (digits-lt hv hb)
+
+-- a number is too wide for k bits where its bits from k on are not all 0
+pub bits-beyond : (v k : ℕ) → ltb 0 (v / 2 ^ k) ≡ leb (2 ^ k) v
+bits-beyond v k = go (leb (2 ^ k) v) refl
+  where
+    go : (b : Bool) → leb (2 ^ k) v ≡ b → ltb 0 (v / 2 ^ k) ≡ b
+    go true e = lt-ltb 0 (v / 2 ^ k) (le-div-iff-mul-le (pow-pos k) .1 (rw one-mul (leb-true (2 ^ k) v e)))
+    go false e = le-ltb 0 (v / 2 ^ k) (le-of-eq (div-eq-of-lt (leb-false (2 ^ k) v e)))
 
 -- two numbers' bits together hold a 1 where one of the two numbers does
 some-bit-of-either : (x y : ℕ) → ltb 0 (bitOr x y) ≡ ltb 0 x || ltb 0 y

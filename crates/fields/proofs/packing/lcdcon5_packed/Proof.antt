@@ -1,0 +1,11 @@
+-- `fields::packing::lcdcon5_packed` meets its contract: thirteen fields, so the facts of the first calls are handed over. Assumes nothing.
+use native.Mathlib.Omega.{arith}
+use borrow.Author.Needs.{needs}
+use Rattle.fields.proofs.packing.lcdcon5_packed.Statement.{statement}
+use Rattle.fields.proofs.packing.lcdcon5_packed.Tie as tie
+
+returns : tie.Need-returns
+returns c = omega (arith, c .before .before .before .before .before .before .before)
+
+pub lcdcon5-packed-spec : {M : Type 1} → statement M
+lcdcon5-packed-spec = tie.close (tie.spec (λ c κs. search needs) (λ c κs. search needs) (λ c κs. search needs) (λ c κs. search needs) (λ c κs. search needs) (λ c κs. search needs) (λ c κs. search needs) (λ c κs. search needs) (λ c κs. search needs) (λ c κs. search needs) (λ c κs. omega (arith, c .before .before .before .before .before .before .before .before .before .before .pre)) (λ c κs. omega (arith, c .before .before .before .before .before .before .before .before .before .before .before .pre)) (λ c κs. omega (arith, c .before .before .before .before .before .before .before .before .before .before .before .before .pre)) returns)

@@ -1,0 +1,6 @@
+-- `fields::parts::lcdsaddr3_of` meets its contract: each field is what the register gives. Assumes nothing.
+use Rattle.fields.proofs.parts.lcdsaddr3_of.Statement.{statement}
+use Rattle.fields.proofs.parts.lcdsaddr3_of.Tie as tie
+
+pub lcdsaddr3-of-spec : {M : Type 1} → statement M
+lcdsaddr3-of-spec = tie.close (tie.spec (λ c κs. tt) (λ c κs. tt) (λ c. cc))

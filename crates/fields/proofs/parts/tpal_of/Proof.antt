@@ -1,0 +1,6 @@
+-- `fields::parts::tpal_of` meets its contract: each field is what the register gives. Assumes nothing.
+use Rattle.fields.proofs.parts.tpal_of.Statement.{statement}
+use Rattle.fields.proofs.parts.tpal_of.Tie as tie
+
+pub tpal-of-spec : {M : Type 1} → statement M
+tpal-of-spec = tie.close (tie.spec (λ c κs. tt) (λ c κs. tt) (λ c. cc))

@@ -1,0 +1,7 @@
+-- `fields::widths::lcdsaddr1_too_wide` meets its contract: the tests follow the layout. Assumes nothing.
+use borrow.Author.Needs.{needs}
+use Rattle.fields.proofs.widths.lcdsaddr1_too_wide.Statement.{statement}
+use Rattle.fields.proofs.widths.lcdsaddr1_too_wide.Tie as tie
+
+pub lcdsaddr1-too-wide-spec : {M : Type 1} → statement M
+lcdsaddr1-too-wide-spec = tie.close (tie.spec (λ c κs. search needs) (λ c κs. search needs) (λ c. cc))

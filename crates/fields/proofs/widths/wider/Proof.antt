@@ -1,0 +1,27 @@
+-- `fields::widths::wider` meets its contract. Assumes nothing.
+use mathlib.Core.Path.{_≡_, sym, _∙_, ap}
+use Prim.Native.Nat.{ℕ, suc, _+_, _-_, _/_, _^_, _≤_}
+use native.Mathlib.Omega.{arith}
+use borrow.Author.Needs.{needs}
+use borrow.Author.Tests.{lt-ltb, le-ltb}
+use lib.Dec.{leb, ltb}
+use Rattle.laws.specs.Shifts.{bits-beyond}
+use Rattle.fields.proofs.widths.wider.Statement.{statement}
+use Rattle.fields.proofs.widths.wider.Tie as tie
+
+-- the bits past the part's width hold a 1 where the value does not fit
+beyond : (v high low : ℕ) → low ≤ high → ltb 0 (v / 2 ^ (high - low + 1)) ≡ leb (2 ^ (suc high - low)) v
+beyond v high low h = bits-beyond v (high - low + 1) ∙ ap (λ (k : ℕ). leb (2 ^ k) v) (omega arith)
+
+returns : tie.Need-returns
+returns c =
+    let a = c .before .args in
+    rw (sym (beyond (a .value) (a .high) (a .low) (omega arith)) ∙ lt-ltb 0 _ (c .if1 .taken))
+
+returns-2 : tie.Need-returns-2
+returns-2 c =
+    let a = c .before .args in
+    rw (sym (beyond (a .value) (a .high) (a .low) (omega arith)) ∙ le-ltb 0 _ (c .if1 .left))
+
+pub wider-spec : {M : Type 1} → statement M
+wider-spec = tie.close (tie.spec (λ c. search needs) (λ c. search needs) (λ c. search needs) returns returns-2)
