@@ -5,7 +5,7 @@ use mathlib.Core.Bool.{Bool, true, false, _&&_, _||_}
 use mathlib.Core.List.{List, [], _∷_}
 use Prim.Native.Nat.{ℕ, zero, suc, _+_, _-_, _*_, _/_, _%_, _^_, _<_, _≤_}
 use native.Mathlib.Omega.{arith}
-use native.Mathlib.Nat.{mod-lt, add-mul, mul-assoc}
+use native.Mathlib.Nat.{mod-lt, mod-eq-of-lt, add-mul, mul-assoc}
 use borrow.Author.Tests.{leb-false, ltb-false, lt-leb}
 use lib.Dec.{T, ltb, leb, eqb, leb→le, eqb→eq}
 use lib.ListN.{length}
@@ -190,7 +190,7 @@ no-values [] l = refl
 no-values (v ∷ vs) l = absurd (omega arith)
 
 -- values that fit, packed, are read back the same
-pub values-of-packed : (q n : ℕ) (ps : List Part) (vs : List ℕ) → T (tiles n ps) → tooWide ps vs ≡ false
+values-of-packed : (q n : ℕ) (ps : List Part) (vs : List ℕ) → T (tiles n ps) → tooWide ps vs ≡ false
     → length vs ≡ freeParts ps → values ps (q * 2 ^ n + pack ps vs) ≡ vs
 values-of-packed q n [] vs t f l = no-values vs l
 values-of-packed q n (p ∷ ps) vs t f l =
@@ -206,7 +206,7 @@ reserved-next ReadOnly vs = refl
 reserved-next Reserved vs = refl
 
 -- no reserved bit of a packed word is set
-pub packed-reserved-clear : (q n : ℕ) (ps : List Part) (vs : List ℕ) → T (tiles n ps) → tooWide ps vs ≡ false
+packed-reserved-clear : (q n : ℕ) (ps : List Part) (vs : List ℕ) → T (tiles n ps) → tooWide ps vs ≡ false
     → reservedSet ps (q * 2 ^ n + pack ps vs) ≡ false
 packed-reserved-clear q n [] vs t f = refl
 packed-reserved-clear q n (p ∷ ps) vs t f =
@@ -245,7 +245,7 @@ split-by-access ReadOnly v m vs r = omega arith
 split-by-access Reserved v m vs r = omega (arith, ap (λ (x : ℕ). x * m) (le-zero (ltb-false 0 v r)))
 
 -- a word with no reserved bit set, read and packed again, is the same but for its read-only bits
-pub packed-values : (n : ℕ) (ps : List Part) (w : ℕ) → T (tiles n ps) → reservedSet ps w ≡ false
+packed-values : (n : ℕ) (ps : List Part) (w : ℕ) → T (tiles n ps) → reservedSet ps w ≡ false
     → pack ps (values ps w) + readOnlyBits ps w ≡ w % 2 ^ n
 packed-values n [] w t r = rw (eqb→eq n 0 t) (omega arith)
 packed-values n (p ∷ ps) w t r =
@@ -257,3 +257,22 @@ packed-values n (p ∷ ps) w t r =
 
     part-clear : ifReserved (p .access) (ltb 0 (field p w)) ≡ false
     part-clear = or-false-right (reservedSet ps w) (ifReserved (p .access) (ltb 0 (field p w))) r
+
+-- ---- the two round trips of a whole word
+
+module _ (n : ℕ) (ps : List Part) (vs : List ℕ) (t : T (tiles n ps)) (f : tooWide ps vs ≡ false) where
+  alone : 0 * 2 ^ n + pack ps vs ≡ pack ps vs
+  alone = omega arith
+
+  -- values that fit, packed, are read back the same
+  pub packed-and-read : length vs ≡ freeParts ps → values ps (pack ps vs) ≡ vs
+  packed-and-read l = ap (values ps) (sym alone) ∙ values-of-packed 0 n ps vs t f l
+
+  -- and no reserved bit is set
+  pub packed-is-clear : reservedSet ps (pack ps vs) ≡ false
+  packed-is-clear = ap (reservedSet ps) (sym alone) ∙ packed-reserved-clear 0 n ps vs t f
+
+-- a word with no reserved bit set, read and packed, is the same, read-only bits apart
+pub read-and-packed : (n : ℕ) (ps : List Part) (w : ℕ) → T (tiles n ps) → w < 2 ^ n → reservedSet ps w ≡ false
+    → pack ps (values ps w) ≡ w - readOnlyBits ps w
+read-and-packed n ps w t h r = omega (arith, packed-values n ps w t r, mod-eq-of-lt h)

@@ -40,3 +40,7 @@ AllFalse (b ∷ bs) = (b ≡ false) × AllFalse bs
 pub all-false : (bs : List Bool) → any bs ≡ false → AllFalse bs
 all-false [] e = tt
 all-false (b ∷ bs) e = (or-false-left b (any bs) e, all-false bs (or-false-right b (any bs) e))
+
+pub none-true : (bs : List Bool) → AllFalse bs → any bs ≡ false
+none-true [] f = refl
+none-true (b ∷ bs) f = or-false (f .0) (none-true bs (f .1))

@@ -1,7 +1,9 @@
 -- Each field of the nine words by name, and refusal 1 (document 01, "The nine words"). A word's bits are given in Layouts. Assumes nothing.
-use mathlib.Core.Bool.{Bool, _||_}
+use mathlib.Core.Bool.{Bool}
+use mathlib.Core.List.{List, [], _∷_}
 use Prim.Native.Nat.{ℕ}
 use Rattle.laws.specs.BitFields.{field, reservedSet}
+use Rattle.laws.specs.Booleans.{any}
 use Rattle.registers.specs.declared.Words.{Words}
 use Rattle.registers.specs.Layouts.{LCDCON1, LINECNT, CLKVAL, MMODE, PNRMODE, BPPMODE, ENVID}
 use Rattle.registers.specs.Layouts.{LCDCON2, VBPD, LINEVAL, VFPD, VSPW}
@@ -133,7 +135,10 @@ tpalen w = field TPALEN (w .tpal)
 abbrev pub tpalval : Words → ℕ
 tpalval w = field TPALVAL (w .tpal)
 
+-- for each word, whether a reserved bit of it is set
+abbrev pub reservedWords : Words → List Bool
+reservedWords w = reservedSet LCDCON1 (w .lcdcon1) ∷ reservedSet LCDCON2 (w .lcdcon2) ∷ reservedSet LCDCON3 (w .lcdcon3) ∷ reservedSet LCDCON4 (w .lcdcon4) ∷ reservedSet LCDCON5 (w .lcdcon5) ∷ reservedSet LCDSADDR1 (w .lcdsaddr1) ∷ reservedSet LCDSADDR2 (w .lcdsaddr2) ∷ reservedSet LCDSADDR3 (w .lcdsaddr3) ∷ reservedSet TPAL (w .tpal) ∷ []
+
 -- 1: a reserved bit is set
 unfoldable pub reservedBit : Words → Bool
-reservedBit w =
-    reservedSet LCDCON1 (w .lcdcon1) || reservedSet LCDCON2 (w .lcdcon2) || reservedSet LCDCON3 (w .lcdcon3) || reservedSet LCDCON4 (w .lcdcon4) || reservedSet LCDCON5 (w .lcdcon5) || reservedSet LCDSADDR1 (w .lcdsaddr1) || reservedSet LCDSADDR2 (w .lcdsaddr2) || reservedSet LCDSADDR3 (w .lcdsaddr3) || reservedSet TPAL (w .tpal)
+reservedBit w = any (reservedWords w)

@@ -239,14 +239,14 @@ impl Words {
     pub fn reserved_bit(self) -> bool
         ensures { λ r. ⌜ r ≡ reservedBit self ⌝ }
     {
-        let bits = cut(self.lcdcon1, 31, 28)
-            | cut(self.lcdcon3, 31, 26)
-            | cut(self.lcdcon4, 31, 16)
-            | cut(self.lcdcon5, 31, 17)
-            | cut(self.lcdsaddr1, 31, 30)
-            | cut(self.lcdsaddr2, 31, 21)
-            | cut(self.lcdsaddr3, 31, 22)
-            | cut(self.tpal, 31, 25);
+        let bits = cut(self.tpal, 31, 25);
+        let bits = cut(self.lcdsaddr3, 31, 22) | bits;
+        let bits = cut(self.lcdsaddr2, 31, 21) | bits;
+        let bits = cut(self.lcdsaddr1, 31, 30) | bits;
+        let bits = cut(self.lcdcon5, 31, 17) | bits;
+        let bits = cut(self.lcdcon4, 31, 16) | bits;
+        let bits = cut(self.lcdcon3, 31, 26) | bits;
+        let bits = cut(self.lcdcon1, 31, 28) | bits;
         0 < bits
     }
 }

@@ -15,14 +15,14 @@ returns c =
     let c3 = c4 .before in
     let c2 = c3 .before in
     let c1 = c2 .before in
-    let lcdcon1-2 = some-bit-never (some-bit (c1 .cut .ensures)) in
-    let lcdcon3 = some-bit-or lcdcon1-2 (some-bit (c2 .cut2 .ensures)) in
-    let lcdcon4 = some-bit-or lcdcon3 (some-bit (c3 .cut3 .ensures)) in
-    let lcdcon5 = some-bit-or lcdcon4 (some-bit (c4 .cut4 .ensures)) in
-    let lcdsaddr1 = some-bit-or lcdcon5 (some-bit (c5 .cut5 .ensures)) in
-    let lcdsaddr2 = some-bit-or lcdsaddr1 (some-bit (c6 .cut6 .ensures)) in
-    let lcdsaddr3 = some-bit-or lcdsaddr2 (some-bit (c7 .cut7 .ensures)) in
-    some-bit-or lcdsaddr3 (some-bit (c .cut8 .ensures)) .says
+    let tpal = some-bit-never (some-bit (c1 .cut .ensures)) in
+    let lcdsaddr3 = some-bit-or (some-bit (c2 .cut2 .ensures)) tpal in
+    let lcdsaddr2 = some-bit-or (some-bit (c3 .cut3 .ensures)) lcdsaddr3 in
+    let lcdsaddr1 = some-bit-or (some-bit (c4 .cut4 .ensures)) lcdsaddr2 in
+    let lcdcon5 = some-bit-or (some-bit (c5 .cut5 .ensures)) lcdsaddr1 in
+    let lcdcon4 = some-bit-or (some-bit (c6 .cut6 .ensures)) lcdcon5 in
+    let lcdcon3 = some-bit-or (some-bit (c7 .cut7 .ensures)) lcdcon4 in
+    some-bit-or (some-bit (c .cut8 .ensures)) lcdcon3 .says
 
 pub reserved-bit-spec : {M : Type 1} → statement M
 reserved-bit-spec =
