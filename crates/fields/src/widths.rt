@@ -22,11 +22,7 @@ fn wider(value: u32, high: u32, low: u32, another: bool) -> bool
     requires { ⌜ (low ≤ high) × (high - low < 31) ⌝ }
     ensures { λ r. ⌜ r ≡ (leb (2 ^ (suc high - low)) value || another) ⌝ }
 {
-    if 0 < value >> (high - low + 1) {
-        true
-    } else {
-        another
-    }
+    (0 < value >> (high - low + 1)) | another
 }
 
 fn lcdcon1_too_wide(f: Lcdcon1) -> bool
@@ -108,22 +104,16 @@ fn tpal_too_wide(f: Tpal) -> bool
     wider(f.tpalen, 24, 24, wide)
 }
 
-fn either(a: bool, b: bool) -> bool
-    ensures { λ r. ⌜ r ≡ (a || b) ⌝ }
-{
-    if a { true } else { b }
-}
-
 pub(crate) fn too_wide(f: Fields) -> bool
     ensures { λ r. ⌜ r ≡ fieldTooWide f ⌝ }
 {
-    let wide = either(tpal_too_wide(f.tpal), false);
-    let wide = either(lcdsaddr3_too_wide(f.lcdsaddr3), wide);
-    let wide = either(lcdsaddr2_too_wide(f.lcdsaddr2), wide);
-    let wide = either(lcdsaddr1_too_wide(f.lcdsaddr1), wide);
-    let wide = either(lcdcon5_too_wide(f.lcdcon5), wide);
-    let wide = either(lcdcon4_too_wide(f.lcdcon4), wide);
-    let wide = either(lcdcon3_too_wide(f.lcdcon3), wide);
-    let wide = either(lcdcon2_too_wide(f.lcdcon2), wide);
-    either(lcdcon1_too_wide(f.lcdcon1), wide)
+    let wide = tpal_too_wide(f.tpal);
+    let wide = lcdsaddr3_too_wide(f.lcdsaddr3) | wide;
+    let wide = lcdsaddr2_too_wide(f.lcdsaddr2) | wide;
+    let wide = lcdsaddr1_too_wide(f.lcdsaddr1) | wide;
+    let wide = lcdcon5_too_wide(f.lcdcon5) | wide;
+    let wide = lcdcon4_too_wide(f.lcdcon4) | wide;
+    let wide = lcdcon3_too_wide(f.lcdcon3) | wide;
+    let wide = lcdcon2_too_wide(f.lcdcon2) | wide;
+    lcdcon1_too_wide(f.lcdcon1) | wide
 }

@@ -1,9 +1,9 @@
 -- `fields::widths::wider` meets its contract. Assumes nothing.
-use mathlib.Core.Path.{_≡_, sym, _∙_, ap}
+use mathlib.Core.Bool.{Bool, _||_}
+use mathlib.Core.Path.{_≡_, _∙_, ap}
 use Prim.Native.Nat.{ℕ, suc, _+_, _-_, _/_, _^_, _≤_}
 use native.Mathlib.Omega.{arith}
 use borrow.Author.Needs.{needs}
-use borrow.Author.Tests.{lt-ltb, le-ltb}
 use lib.Dec.{leb, ltb}
 use Rattle.laws.specs.Shifts.{bits-beyond}
 use Rattle.fields.proofs.widths.wider.Statement.{statement}
@@ -15,13 +15,8 @@ beyond v high low h = bits-beyond v (high - low + 1) ∙ ap (λ (k : ℕ). leb (
 
 returns : tie.Need-returns
 returns c =
-    let a = c .before .args in
-    rw (sym (beyond (a .value) (a .high) (a .low) (omega arith)) ∙ lt-ltb 0 _ (c .if1 .taken))
-
-returns-2 : tie.Need-returns-2
-returns-2 c =
-    let a = c .before .args in
-    rw (sym (beyond (a .value) (a .high) (a .low) (omega arith)) ∙ le-ltb 0 _ (c .if1 .left))
+    let a = c .args in
+    ap (λ (t : Bool). t || a .another) (beyond (a .value) (a .high) (a .low) (omega arith))
 
 pub wider-spec : {M : Type 1} → statement M
-wider-spec = tie.close (tie.spec (λ c. search needs) (λ c. search needs) (λ c. search needs) returns returns-2)
+wider-spec = tie.close (tie.spec (λ c. search needs) (λ c. search needs) (λ c. search needs) returns)
