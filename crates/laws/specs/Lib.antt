@@ -1,5 +1,7 @@
-pub mod Shifts
 pub mod Answers
+pub mod BitFields
 pub mod Booleans
 pub mod Cases
-pub mod BitFields
+pub mod Products
+pub mod Shifts
+pub mod Tables

@@ -1,0 +1,6 @@
+-- Bounds of products, with every number written out so that `omega` can take them. Assumes nothing.
+use Prim.Native.Nat.{ℕ, _*_, _≤_}
+use native.Mathlib.Nat.{mul-le-mul}
+
+pub product-le : (a m b n : ℕ) → a ≤ m → b ≤ n → a * b ≤ m * n
+product-le a m b n p q = mul-le-mul p q

@@ -1,0 +1,83 @@
+-- The mode table (document 01, "The nine words"): what lies outside 8..13, and what the modes inside select. Assumes nothing.
+use mathlib.Core.Bool.{Bool, true, false, _&&_, and-eq-true-iff}
+use mathlib.Core.List.{[], _∷_}
+use mathlib.Core.Path.{_≡_, refl, sym, _∙_}
+use Prim.Native.Nat.{ℕ, _-_, _*_, _/_, _<_, _≤_}
+use native.Mathlib.Omega.{arith}
+use borrow.Author.Tests.{lt-leb, le-leb, leb-true, not-false}
+use lib.Dec.{T, leb, ltb, eqb, leb→le, ltb→lt, eqb→eq}
+use Rattle.laws.specs.Answers.{accepted, refused, judged-accepted, judged-refused}
+use Rattle.laws.specs.Cases.{_when_, lowest, lowest-zero-none-holds}
+use Rattle.laws.specs.Tables.{every, entry-passes}
+use Rattle.panel.specs.Geometry.{outsideModes, storedBits, depthOf}
+
+-- ---- outside
+
+pub outside-below : (mode : ℕ) → mode < 8 → outsideModes mode ≡ true
+unfolding outsideModes
+outside-below mode h = rw (lt-leb 8 mode h)
+
+pub outside-above : (mode : ℕ) → 13 < mode → outsideModes mode ≡ true
+unfolding outsideModes
+outside-above mode h = rw (le-leb 8 mode (omega arith), lt-leb mode 13 h)
+
+pub outside-stores-none : (mode : ℕ) → outsideModes mode ≡ true → storedBits mode ≡ 0
+unfolding storedBits
+outside-stores-none mode o = rw o
+
+-- one more number that a mode is not
+pub past : (n mode : ℕ) → n ≤ mode → (mode ≡ n → ⊥) → n < mode
+past n mode l ne = omega arith
+
+-- ---- what an answer says of the mode
+
+pub accepted-mode : (mode bits : ℕ) → accepted bits ≡ depthOf mode → (outsideModes mode ≡ false) × (bits ≡ storedBits mode)
+unfolding depthOf
+accepted-mode mode bits e = (lowest-zero-none-holds 0 (3 when outsideModes mode ∷ []) tt (taken .0) .0, sym (taken .1))
+  where
+    taken : (lowest (3 when outsideModes mode ∷ []) ≡ 0) × (storedBits mode ≡ bits)
+    taken = judged-accepted (lowest (3 when outsideModes mode ∷ [])) (storedBits mode) bits (sym e)
+
+pub refused-mode : (mode n : ℕ) → refused n ≡ depthOf mode → outsideModes mode ≡ true
+unfolding depthOf lowest
+refused-mode mode n e = go (outsideModes mode) refl
+  where
+    some-case : 0 < lowest (3 when outsideModes mode ∷ [])
+    some-case = judged-refused (lowest (3 when outsideModes mode ∷ [])) (storedBits mode) n (sym e) .1
+
+    go : (b : Bool) → outsideModes mode ≡ b → outsideModes mode ≡ true
+    go true o = o
+    go false o = absurd (omega (arith, rw o at some-case))
+
+-- ---- inside
+
+pub inside-range : (mode : ℕ) → outsideModes mode ≡ false → (8 ≤ mode) × (mode ≤ 13)
+unfolding outsideModes
+inside-range mode o =
+    let both : leb 8 mode && leb mode 13 ≡ true = not-false (leb 8 mode && leb mode 13) o in
+    let low : leb 8 mode ≡ true = and-eq-true-iff (leb 8 mode) (leb mode 13) .0 both .0 in
+    let high : leb mode 13 ≡ true = and-eq-true-iff (leb 8 mode) (leb mode 13) .0 both .1 in
+    (leb-true 8 mode low, leb-true mode 13 high)
+
+-- what holds of each stored size holds of the one that a mode selects
+pub size-passes : (p : ℕ → Bool) → T (every p (1 ∷ 2 ∷ 4 ∷ 8 ∷ 16 ∷ 32 ∷ [])) → (mode : ℕ) → outsideModes mode ≡ false
+    → T (p (storedBits mode))
+unfolding storedBits
+size-passes p t mode o =
+    let range = inside-range mode o in
+    rw o (entry-passes p (1 ∷ 2 ∷ 4 ∷ 8 ∷ 16 ∷ 32 ∷ []) t (mode - 8) (omega arith))
+
+pub stored-bits-le : (mode : ℕ) → storedBits mode ≤ 32
+stored-bits-le mode = go (outsideModes mode) refl
+  where
+    go : (b : Bool) → outsideModes mode ≡ b → storedBits mode ≤ 32
+    go true o = omega (arith, outside-stores-none mode o)
+    go false o = leb→le (storedBits mode) 32 (size-passes (λ s. leb s 32) tt mode o)
+
+pub stored-bits-pos : (mode : ℕ) → outsideModes mode ≡ false → 0 < storedBits mode
+stored-bits-pos mode o = ltb→lt 0 (storedBits mode) (size-passes (λ s. ltb 0 s) tt mode o)
+
+-- a word holds a whole number of pixels
+pub pixels-fill-word : (mode : ℕ) → outsideModes mode ≡ false → storedBits mode * (32 / storedBits mode) ≡ 32
+pixels-fill-word mode o =
+    eqb→eq (storedBits mode * (32 / storedBits mode)) 32 (size-passes (λ s. eqb (s * (32 / s)) 32) tt mode o)

@@ -1,0 +1,24 @@
+-- `panel::geometry::row_offset` meets its contract. Assumes nothing.
+use native.Mathlib.Omega.{arith}
+use borrow.Author.Needs.{needs}
+use Rattle.laws.specs.Products.{product-le}
+use Rattle.panel.specs.Geometry.{rowOffset}
+use Rattle.panel.proofs.geometry.row_offset.Statement.{statement}
+use Rattle.panel.proofs.geometry.row_offset.Tie as tie
+
+mul-result : tie.Need-mul-result
+mul-result c =
+    omega (arith, product-le (c .before .before .args .row) 4294967295 (c .pitch .result) 4094 (omega arith) (omega arith))
+
+add-result : tie.Need-add-result
+add-result c =
+    omega (arith, product-le (c .before .before .args .row) 4294967295 (c .pitch .result) 4094 (omega arith) (omega arith))
+
+returns : tie.Need-returns
+unfolding rowOffset
+returns c = rw (c .before .lcdbaseu .ensures, c .pitch .ensures)
+
+pub row-offset-spec : {M : Type 1} → statement M
+row-offset-spec =
+    tie.close
+    (tie.spec (λ c κs. tt) (λ c. search needs) (λ c κs. tt) (λ c. search needs) mul-result add-result returns)

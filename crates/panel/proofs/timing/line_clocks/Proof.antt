@@ -1,0 +1,16 @@
+-- `panel::timing::line_clocks` meets its contract. Assumes nothing.
+use native.Mathlib.Omega.{arith}
+use borrow.Author.Needs.{needs}
+use Rattle.panel.specs.Timing.{lineClocks}
+use Rattle.panel.proofs.timing.line_clocks.Statement.{statement}
+use Rattle.panel.proofs.timing.line_clocks.Tie as tie
+
+returns : tie.Need-returns
+unfolding lineClocks
+returns c =
+    rw (c .before .before .before .hspw .ensures, c .before .before .hbpd .ensures, c .before .width .ensures, c .hfpd .ensures)
+
+pub line-clocks-spec : {M : Type 1} → statement M
+line-clocks-spec =
+    tie.close
+    (tie.spec (λ c κs. tt) (λ c. search needs) (λ c κs. tt) (λ c. search needs) (λ c. search needs) (λ c κs. tt) (λ c. search needs) (λ c κs. tt) (λ c. search needs) (λ c. search needs) returns)

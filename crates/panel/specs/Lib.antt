@@ -1,0 +1,4 @@
+pub mod Geometry
+pub mod Timing
+pub mod Refusals
+pub mod Counts

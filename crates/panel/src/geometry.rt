@@ -1,0 +1,54 @@
+// The panel's size, the stored bits of a pixel and where a row starts.
+ghost use mathlib.Core.Path.{_≡_};
+ghost use Rattle.panel.specs.Geometry.{width, height, depth, depthOf, pitch, rowOffset};
+use registers::Words;
+
+// What a mode number selects: the stored bits of a pixel, or a refusal's number.
+pub enum Depth {
+    Stored(u32),
+    Refused(u32),
+}
+
+// Pixels in a row.
+pub fn width(w: Words) -> u32
+    ensures { λ r. ⌜ r ≡ width w ⌝ }
+{
+    w.hozval() + 1
+}
+
+// Rows.
+pub fn height(w: Words) -> u32
+    ensures { λ r. ⌜ r ≡ height w ⌝ }
+{
+    w.lineval() + 1
+}
+
+// The stored bits of a pixel for a BPPMODE number, or 3.
+pub fn stored_bits(mode: u32) -> Depth
+    ensures { λ r. ⌜ depth r ≡ depthOf mode ⌝ }
+{
+    match mode {
+        0..=7 => Depth::Refused(3),
+        8 => Depth::Stored(1),
+        9 => Depth::Stored(2),
+        10 => Depth::Stored(4),
+        11 => Depth::Stored(8),
+        12 => Depth::Stored(16),
+        13 => Depth::Stored(32),
+        14.. => Depth::Refused(3),
+    }
+}
+
+// Half-words from row to row.
+pub fn pitch(w: Words) -> u32
+    ensures { λ r. ⌜ r ≡ pitch w ⌝ }
+{
+    w.pagewidth() + w.offsize()
+}
+
+// Half-words from the bank's start to a row.
+pub fn row_offset(w: Words, row: u32) -> u64
+    ensures { λ r. ⌜ r ≡ rowOffset w row ⌝ }
+{
+    w.lcdbaseu() as u64 + row as u64 * pitch(w) as u64
+}

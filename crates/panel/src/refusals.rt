@@ -1,0 +1,94 @@
+// Refusals 1 to 7: what the words alone decide. Each condition stands in a function of its own.
+ghost use mathlib.Core.Path.{_≡_};
+ghost use Rattle.registers.specs.Fields.{bppmode};
+ghost use Rattle.panel.specs.Geometry.{storedBits};
+ghost use Rattle.panel.specs.Refusals.{notTft, noSuchMode, swapsIllegal, rowSizeWrong, endDiffers, pastBank, judge};
+use super::geometry::Depth;
+use super::geometry::height;
+use super::geometry::row_offset;
+use super::geometry::stored_bits;
+use super::geometry::width;
+use registers::Words;
+
+// The stored bits of the words' mode, 0 where there is none.
+fn bits_of(w: Words) -> u32
+    ensures { λ r. ⌜ r ≡ storedBits (bppmode w) ⌝ }
+{
+    match stored_bits(w.bppmode()) {
+        Depth::Stored(bits) => bits,
+        Depth::Refused(_) => 0,
+    }
+}
+
+fn not_tft(w: Words) -> bool
+    ensures { λ r. ⌜ r ≡ notTft w ⌝ }
+{
+    w.pnrmode() != 3
+}
+
+fn no_such_mode(w: Words) -> bool
+    ensures { λ r. ⌜ r ≡ noSuchMode w ⌝ }
+{
+    match stored_bits(w.bppmode()) {
+        Depth::Stored(_) => false,
+        Depth::Refused(_) => true,
+    }
+}
+
+fn swaps_illegal(w: Words) -> bool
+    ensures { λ r. ⌜ r ≡ swapsIllegal w ⌝ }
+{
+    let bits = bits_of(w);
+    let bswp = w.bswp();
+    let hwswp = w.hwswp();
+    ((bswp == 1) & (8 < bits)) | ((hwswp == 1) & (bits != 16)) | ((bswp == 1) & (hwswp == 1))
+}
+
+fn row_size_wrong(w: Words) -> bool
+    ensures { λ r. ⌜ r ≡ rowSizeWrong w ⌝ }
+{
+    let row = 16 * w.pagewidth();
+    let pixels = width(w) * bits_of(w);
+    (row != pixels) | (w.lcdbaseu() % 2 == 1) | (w.pagewidth() % 2 == 1) | (w.offsize() % 2 == 1)
+}
+
+fn end_differs(w: Words) -> bool
+    ensures { λ r. ⌜ r ≡ endDiffers w ⌝ }
+{
+    let end = row_offset(w, height(w)) % 0x20_0000;
+    w.lcdbasel() as u64 != end
+}
+
+fn past_bank(w: Words) -> bool
+    ensures { λ r. ⌜ r ≡ pastBank w ⌝ }
+{
+    0x20_0000 < row_offset(w, height(w) - 1) + w.pagewidth() as u64
+}
+
+// The lowest of the numbers 1 to 7 whose condition holds, 0 where none does.
+pub fn judge(w: Words) -> u32
+    ensures { λ r. ⌜ r ≡ judge w ⌝ }
+{
+    if w.reserved_bit() {
+        return 1;
+    }
+    if not_tft(w) {
+        return 2;
+    }
+    if no_such_mode(w) {
+        return 3;
+    }
+    if swaps_illegal(w) {
+        return 4;
+    }
+    if row_size_wrong(w) {
+        return 5;
+    }
+    if end_differs(w) {
+        return 6;
+    }
+    if past_bank(w) {
+        return 7;
+    }
+    0
+}
