@@ -1,2 +1,4 @@
+pub mod Accepted
 pub mod Bounds
+pub mod Examples
 pub mod Modes
