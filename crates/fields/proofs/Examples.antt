@@ -27,7 +27,17 @@ panel pagewidth =
 
 abbrev words : Words
 words =
-    record { lcdcon1 = 0x479; lcdcon2 = 0x014FC041; lcdcon3 = 0x0098EF09; lcdcon4 = 0x9; lcdcon5 = 0xB09; lcdsaddr1 = 0x18000000; lcdsaddr2 = 0x12C00; lcdsaddr3 = 0xF0; tpal = 0 }
+    record {
+      lcdcon1 = 0x479;
+      lcdcon2 = 0x014FC041;
+      lcdcon3 = 0x0098EF09;
+      lcdcon4 = 0x9;
+      lcdcon5 = 0xB09;
+      lcdsaddr1 = 0x18000000;
+      lcdsaddr2 = 0x12C00;
+      lcdsaddr3 = 0xF0;
+      tpal = 0;
+    }
 
 pub t9 : (write (panel 240) ≡ accepted words) × (read words ≡ accepted (panel 240))
 unfolding write read judged lowest lower fieldTooWide reservedBit

@@ -1,17 +1,23 @@
 -- The two round trips (demand 2): "Fields written and read back are the same, and so are accepted words, read-only bits apart."
 -- Both follow from the layouts, word by word, by one law each. Assumes nothing but, of the words, that each has 32 bits.
-use mathlib.Core.Bool.{Bool, false}
+use mathlib.Core.Bool.{false}
 use mathlib.Core.List.{List, [], _∷_}
-use mathlib.Core.Path.{_≡_, refl, sym, ap, ap₂, _∙_}
+use mathlib.Core.Path.{_≡_, refl, sym, ap, _∙_}
 use Prim.Native.Nat.{ℕ, _-_, _^_, _<_}
 use lib.ListN.{getD}
-use Rattle.laws.specs.Answers.{Answer, accepted, judged, judged-accepted}
-use Rattle.laws.specs.BitFields.{pack, values, tooWide, reservedSet, readOnlyBits, packed-and-read, packed-is-clear, values-fit, read-and-packed}
+use Rattle.laws.specs.Answers.{accepted, judged, judged-accepted}
+use Rattle.laws.specs.BitFields.{readOnlyBits}
+use Rattle.laws.specs.BitFields.RoundTrip.{packed-and-read, packed-is-clear, values-narrow, read-and-packed}
 use Rattle.laws.specs.Booleans.{AllFalse, all-false, none-true}
 use Rattle.laws.specs.Cases.{_when_, lowest, lowest-zero-none-holds}
 use Rattle.registers.specs.Fields.{reservedBit, reservedWords}
 use Rattle.registers.specs.Layouts.{LCDCON1, LCDCON2, LCDCON3, LCDCON4, LCDCON5, LCDSADDR1, LCDSADDR2, LCDSADDR3, TPAL}
 use Rattle.registers.specs.declared.Words.{Words}
+use Rattle.fields.specs.Fitting.{FieldsFit, fields-fit}
+use Rattle.fields.specs.Reading.{read, fieldsOf}
+use Rattle.fields.specs.Writing.{write, wordsOf, fieldTooWide, wideWords}
+use Rattle.fields.specs.Writing.{lcdcon1Values, lcdcon2Values, lcdcon3Values, lcdcon4Values, lcdcon5Values, lcdsaddr1Values, lcdsaddr2Values, lcdsaddr3Values, tpalValues}
+use Rattle.fields.specs.declared.Fields.{Fields}
 use Rattle.fields.specs.declared.Lcdcon1.{Lcdcon1}
 use Rattle.fields.specs.declared.Lcdcon2.{Lcdcon2}
 use Rattle.fields.specs.declared.Lcdcon3.{Lcdcon3}
@@ -21,9 +27,6 @@ use Rattle.fields.specs.declared.Lcdsaddr1.{Lcdsaddr1}
 use Rattle.fields.specs.declared.Lcdsaddr2.{Lcdsaddr2}
 use Rattle.fields.specs.declared.Lcdsaddr3.{Lcdsaddr3}
 use Rattle.fields.specs.declared.Tpal.{Tpal}
-use Rattle.fields.specs.declared.Fields.{Fields}
-use Rattle.fields.specs.Reading.{read, fieldsOf, lcdcon1Of, lcdcon2Of, lcdcon3Of, lcdcon4Of, lcdcon5Of, lcdsaddr1Of, lcdsaddr2Of, lcdsaddr3Of, tpalOf}
-use Rattle.fields.specs.Writing.{write, wordsOf, fieldTooWide, wideWords, lcdcon1Values, lcdcon2Values, lcdcon3Values, lcdcon4Values, lcdcon5Values, lcdsaddr1Values, lcdsaddr2Values, lcdsaddr3Values, tpalValues}
 
 -- each word has 32 bits, as every u32 has
 pub record Each32 (w : Words) : Type 0 where
@@ -39,12 +42,30 @@ pub record Each32 (w : Words) : Type 0 where
 
 -- the words with their read-only bits 0
 abbrev pub withoutReadOnly : Words → Words
-withoutReadOnly w = record { lcdcon1 = w .lcdcon1 - readOnlyBits LCDCON1 (w .lcdcon1); lcdcon2 = w .lcdcon2 - readOnlyBits LCDCON2 (w .lcdcon2); lcdcon3 = w .lcdcon3 - readOnlyBits LCDCON3 (w .lcdcon3); lcdcon4 = w .lcdcon4 - readOnlyBits LCDCON4 (w .lcdcon4); lcdcon5 = w .lcdcon5 - readOnlyBits LCDCON5 (w .lcdcon5); lcdsaddr1 = w .lcdsaddr1 - readOnlyBits LCDSADDR1 (w .lcdsaddr1); lcdsaddr2 = w .lcdsaddr2 - readOnlyBits LCDSADDR2 (w .lcdsaddr2); lcdsaddr3 = w .lcdsaddr3 - readOnlyBits LCDSADDR3 (w .lcdsaddr3); tpal = w .tpal - readOnlyBits TPAL (w .tpal) }
+withoutReadOnly w =
+    record {
+      lcdcon1 = w .lcdcon1 - readOnlyBits LCDCON1 (w .lcdcon1);
+      lcdcon2 = w .lcdcon2 - readOnlyBits LCDCON2 (w .lcdcon2);
+      lcdcon3 = w .lcdcon3 - readOnlyBits LCDCON3 (w .lcdcon3);
+      lcdcon4 = w .lcdcon4 - readOnlyBits LCDCON4 (w .lcdcon4);
+      lcdcon5 = w .lcdcon5 - readOnlyBits LCDCON5 (w .lcdcon5);
+      lcdsaddr1 = w .lcdsaddr1 - readOnlyBits LCDSADDR1 (w .lcdsaddr1);
+      lcdsaddr2 = w .lcdsaddr2 - readOnlyBits LCDSADDR2 (w .lcdsaddr2);
+      lcdsaddr3 = w .lcdsaddr3 - readOnlyBits LCDSADDR3 (w .lcdsaddr3);
+      tpal = w .tpal - readOnlyBits TPAL (w .tpal);
+    }
 
 -- ---- each word's struct from the list of its values
 
 lcdcon1-from : List ℕ → Lcdcon1
-lcdcon1-from vs = record { clkval = getD vs 0 0; mmode = getD vs 1 0; pnrmode = getD vs 2 0; bppmode = getD vs 3 0; envid = getD vs 4 0 }
+lcdcon1-from vs =
+    record {
+      clkval = getD vs 0 0;
+      mmode = getD vs 1 0;
+      pnrmode = getD vs 2 0;
+      bppmode = getD vs 3 0;
+      envid = getD vs 4 0;
+    }
 
 lcdcon2-from : List ℕ → Lcdcon2
 lcdcon2-from vs = record { vbpd = getD vs 0 0; lineval = getD vs 1 0; vfpd = getD vs 2 0; vspw = getD vs 3 0 }
@@ -56,7 +77,22 @@ lcdcon4-from : List ℕ → Lcdcon4
 lcdcon4-from vs = record { mval = getD vs 0 0; hspw = getD vs 1 0 }
 
 lcdcon5-from : List ℕ → Lcdcon5
-lcdcon5-from vs = record { bpp24bl = getD vs 0 0; frm565 = getD vs 1 0; invvclk = getD vs 2 0; invvline = getD vs 3 0; invvframe = getD vs 4 0; invvd = getD vs 5 0; invvden = getD vs 6 0; invpwren = getD vs 7 0; invlend = getD vs 8 0; pwren = getD vs 9 0; enlend = getD vs 10 0; bswp = getD vs 11 0; hwswp = getD vs 12 0 }
+lcdcon5-from vs =
+    record {
+      bpp24bl = getD vs 0 0;
+      frm565 = getD vs 1 0;
+      invvclk = getD vs 2 0;
+      invvline = getD vs 3 0;
+      invvframe = getD vs 4 0;
+      invvd = getD vs 5 0;
+      invvden = getD vs 6 0;
+      invpwren = getD vs 7 0;
+      invlend = getD vs 8 0;
+      pwren = getD vs 9 0;
+      enlend = getD vs 10 0;
+      bswp = getD vs 11 0;
+      hwswp = getD vs 12 0;
+    }
 
 lcdsaddr1-from : List ℕ → Lcdsaddr1
 lcdsaddr1-from vs = record { lcdbank = getD vs 0 0; lcdbaseu = getD vs 1 0 }
@@ -72,57 +108,125 @@ tpal-from vs = record { tpalen = getD vs 0 0; tpalval = getD vs 1 0 }
 
 -- ---- fields written and read back
 
-module _ (f : Fields) (fit : fieldTooWide f ≡ false) where
-  narrow : AllFalse (wideWords f)
-  unfolding fieldTooWide
-  narrow = all-false (wideWords f) fit
-
+module _ (f : Fields) (fit : FieldsFit f) where
   same-fields : fieldsOf (wordsOf f) ≡ f
   unfolding lcdcon1-from lcdcon2-from lcdcon3-from lcdcon4-from lcdcon5-from lcdsaddr1-from lcdsaddr2-from lcdsaddr3-from tpal-from
   same-fields =
-      λ i. record { lcdcon1 = ap lcdcon1-from (packed-and-read 32 LCDCON1 (lcdcon1Values (f .lcdcon1)) tt (narrow .0) refl) i; lcdcon2 = ap lcdcon2-from (packed-and-read 32 LCDCON2 (lcdcon2Values (f .lcdcon2)) tt (narrow .1 .0) refl) i; lcdcon3 = ap lcdcon3-from (packed-and-read 32 LCDCON3 (lcdcon3Values (f .lcdcon3)) tt (narrow .1 .1 .0) refl) i; lcdcon4 = ap lcdcon4-from (packed-and-read 32 LCDCON4 (lcdcon4Values (f .lcdcon4)) tt (narrow .1 .1 .1 .0) refl) i; lcdcon5 = ap lcdcon5-from (packed-and-read 32 LCDCON5 (lcdcon5Values (f .lcdcon5)) tt (narrow .1 .1 .1 .1 .0) refl) i; lcdsaddr1 = ap lcdsaddr1-from (packed-and-read 32 LCDSADDR1 (lcdsaddr1Values (f .lcdsaddr1)) tt (narrow .1 .1 .1 .1 .1 .0) refl) i; lcdsaddr2 = ap lcdsaddr2-from (packed-and-read 32 LCDSADDR2 (lcdsaddr2Values (f .lcdsaddr2)) tt (narrow .1 .1 .1 .1 .1 .1 .0) refl) i; lcdsaddr3 = ap lcdsaddr3-from (packed-and-read 32 LCDSADDR3 (lcdsaddr3Values (f .lcdsaddr3)) tt (narrow .1 .1 .1 .1 .1 .1 .1 .0) refl) i; tpal = ap tpal-from (packed-and-read 32 TPAL (tpalValues (f .tpal)) tt (narrow .1 .1 .1 .1 .1 .1 .1 .1 .0) refl) i }
+      λ i. record {
+        lcdcon1 = ap lcdcon1-from (packed-and-read 32 LCDCON1 (lcdcon1Values (f .lcdcon1)) tt (fit .lcdcon1) refl) i;
+        lcdcon2 = ap lcdcon2-from (packed-and-read 32 LCDCON2 (lcdcon2Values (f .lcdcon2)) tt (fit .lcdcon2) refl) i;
+        lcdcon3 = ap lcdcon3-from (packed-and-read 32 LCDCON3 (lcdcon3Values (f .lcdcon3)) tt (fit .lcdcon3) refl) i;
+        lcdcon4 = ap lcdcon4-from (packed-and-read 32 LCDCON4 (lcdcon4Values (f .lcdcon4)) tt (fit .lcdcon4) refl) i;
+        lcdcon5 = ap lcdcon5-from (packed-and-read 32 LCDCON5 (lcdcon5Values (f .lcdcon5)) tt (fit .lcdcon5) refl) i;
+        lcdsaddr1 = ap lcdsaddr1-from (packed-and-read 32 LCDSADDR1 (lcdsaddr1Values (f .lcdsaddr1)) tt (fit .lcdsaddr1) refl) i;
+        lcdsaddr2 = ap lcdsaddr2-from (packed-and-read 32 LCDSADDR2 (lcdsaddr2Values (f .lcdsaddr2)) tt (fit .lcdsaddr2) refl) i;
+        lcdsaddr3 = ap lcdsaddr3-from (packed-and-read 32 LCDSADDR3 (lcdsaddr3Values (f .lcdsaddr3)) tt (fit .lcdsaddr3) refl) i;
+        tpal = ap tpal-from (packed-and-read 32 TPAL (tpalValues (f .tpal)) tt (fit .tpal) refl) i;
+      }
+
+  clear-words : AllFalse (reservedWords (wordsOf f))
+  clear-words = (
+    packed-is-clear 32 LCDCON1 (lcdcon1Values (f .lcdcon1)) tt (fit .lcdcon1),
+    (
+      packed-is-clear 32 LCDCON2 (lcdcon2Values (f .lcdcon2)) tt (fit .lcdcon2),
+      (
+        packed-is-clear 32 LCDCON3 (lcdcon3Values (f .lcdcon3)) tt (fit .lcdcon3),
+        (
+          packed-is-clear 32 LCDCON4 (lcdcon4Values (f .lcdcon4)) tt (fit .lcdcon4),
+          (
+            packed-is-clear 32 LCDCON5 (lcdcon5Values (f .lcdcon5)) tt (fit .lcdcon5),
+            (
+              packed-is-clear 32 LCDSADDR1 (lcdsaddr1Values (f .lcdsaddr1)) tt (fit .lcdsaddr1),
+              (
+                packed-is-clear 32 LCDSADDR2 (lcdsaddr2Values (f .lcdsaddr2)) tt (fit .lcdsaddr2),
+                (
+                  packed-is-clear 32 LCDSADDR3 (lcdsaddr3Values (f .lcdsaddr3)) tt (fit .lcdsaddr3),
+                  (packed-is-clear 32 TPAL (tpalValues (f .tpal)) tt (fit .tpal), tt),
+                ),
+              ),
+            ),
+          ),
+        ),
+      ),
+    ),
+  )
 
   clear : reservedBit (wordsOf f) ≡ false
   unfolding reservedBit
-  clear =
-      none-true (reservedWords (wordsOf f))
-      (packed-is-clear 32 LCDCON1 (lcdcon1Values (f .lcdcon1)) tt (narrow .0), (packed-is-clear 32 LCDCON2 (lcdcon2Values (f .lcdcon2)) tt (narrow .1 .0), (packed-is-clear 32 LCDCON3 (lcdcon3Values (f .lcdcon3)) tt (narrow .1 .1 .0), (packed-is-clear 32 LCDCON4 (lcdcon4Values (f .lcdcon4)) tt (narrow .1 .1 .1 .0), (packed-is-clear 32 LCDCON5 (lcdcon5Values (f .lcdcon5)) tt (narrow .1 .1 .1 .1 .0), (packed-is-clear 32 LCDSADDR1 (lcdsaddr1Values (f .lcdsaddr1)) tt (narrow .1 .1 .1 .1 .1 .0), (packed-is-clear 32 LCDSADDR2 (lcdsaddr2Values (f .lcdsaddr2)) tt (narrow .1 .1 .1 .1 .1 .1 .0), (packed-is-clear 32 LCDSADDR3 (lcdsaddr3Values (f .lcdsaddr3)) tt (narrow .1 .1 .1 .1 .1 .1 .1 .0), (packed-is-clear 32 TPAL (tpalValues (f .tpal)) tt (narrow .1 .1 .1 .1 .1 .1 .1 .1 .0), tt)))))))))
+  clear = none-true (reservedWords (wordsOf f)) clear-words
 
 -- fields that the writer takes are what reading its words gives
 pub fields-written-and-read : (f : Fields) (w : Words) → write f ≡ accepted w → read w ≡ accepted f
 unfolding write read judged lowest
-fields-written-and-read f w e = ap read (sym (taken .1)) ∙ rw (clear f narrow-all) (ap accepted (same-fields f narrow-all))
+fields-written-and-read f w e = ap read (sym (taken .1)) ∙ rw (clear f fit) (ap accepted (same-fields f fit))
   where
     taken : (lowest (12 when fieldTooWide f ∷ []) ≡ 0) × (wordsOf f ≡ w)
     taken = judged-accepted (lowest (12 when fieldTooWide f ∷ [])) (wordsOf f) w e
 
-    narrow-all : fieldTooWide f ≡ false
-    narrow-all = lowest-zero-none-holds 0 (12 when fieldTooWide f ∷ []) tt (taken .0) .0
+    fit : FieldsFit f
+    fit = fields-fit f (lowest-zero-none-holds 0 (12 when fieldTooWide f ∷ []) tt (taken .0) .0)
 
 -- ---- words read and written back
 
-module _ (w : Words) (sizes : Each32 w) (r : reservedBit w ≡ false) where
-  all-clear : AllFalse (reservedWords w)
+module _ (w : Words) (sizes : Each32 w) (clear-bits : reservedBit w ≡ false) where
+  none : AllFalse (reservedWords w)
   unfolding reservedBit
-  all-clear = all-false (reservedWords w) r
+  none = all-false (reservedWords w) clear-bits
 
   same-words : wordsOf (fieldsOf w) ≡ withoutReadOnly w
   same-words =
-      λ i. record { lcdcon1 = read-and-packed 32 LCDCON1 (w .lcdcon1) tt (sizes .lcdcon1) (all-clear .0) i; lcdcon2 = read-and-packed 32 LCDCON2 (w .lcdcon2) tt (sizes .lcdcon2) (all-clear .1 .0) i; lcdcon3 = read-and-packed 32 LCDCON3 (w .lcdcon3) tt (sizes .lcdcon3) (all-clear .1 .1 .0) i; lcdcon4 = read-and-packed 32 LCDCON4 (w .lcdcon4) tt (sizes .lcdcon4) (all-clear .1 .1 .1 .0) i; lcdcon5 = read-and-packed 32 LCDCON5 (w .lcdcon5) tt (sizes .lcdcon5) (all-clear .1 .1 .1 .1 .0) i; lcdsaddr1 = read-and-packed 32 LCDSADDR1 (w .lcdsaddr1) tt (sizes .lcdsaddr1) (all-clear .1 .1 .1 .1 .1 .0) i; lcdsaddr2 = read-and-packed 32 LCDSADDR2 (w .lcdsaddr2) tt (sizes .lcdsaddr2) (all-clear .1 .1 .1 .1 .1 .1 .0) i; lcdsaddr3 = read-and-packed 32 LCDSADDR3 (w .lcdsaddr3) tt (sizes .lcdsaddr3) (all-clear .1 .1 .1 .1 .1 .1 .1 .0) i; tpal = read-and-packed 32 TPAL (w .tpal) tt (sizes .tpal) (all-clear .1 .1 .1 .1 .1 .1 .1 .1 .0) i }
+      λ i. record {
+        lcdcon1 = read-and-packed 32 LCDCON1 (w .lcdcon1) tt (sizes .lcdcon1) (none .0) i;
+        lcdcon2 = read-and-packed 32 LCDCON2 (w .lcdcon2) tt (sizes .lcdcon2) (none .1 .0) i;
+        lcdcon3 = read-and-packed 32 LCDCON3 (w .lcdcon3) tt (sizes .lcdcon3) (none .1 .1 .0) i;
+        lcdcon4 = read-and-packed 32 LCDCON4 (w .lcdcon4) tt (sizes .lcdcon4) (none .1 .1 .1 .0) i;
+        lcdcon5 = read-and-packed 32 LCDCON5 (w .lcdcon5) tt (sizes .lcdcon5) (none .1 .1 .1 .1 .0) i;
+        lcdsaddr1 = read-and-packed 32 LCDSADDR1 (w .lcdsaddr1) tt (sizes .lcdsaddr1) (none .1 .1 .1 .1 .1 .0) i;
+        lcdsaddr2 = read-and-packed 32 LCDSADDR2 (w .lcdsaddr2) tt (sizes .lcdsaddr2) (none .1 .1 .1 .1 .1 .1 .0) i;
+        lcdsaddr3 = read-and-packed 32 LCDSADDR3 (w .lcdsaddr3) tt (sizes .lcdsaddr3) (none .1 .1 .1 .1 .1 .1 .1 .0) i;
+        tpal = read-and-packed 32 TPAL (w .tpal) tt (sizes .tpal) (none .1 .1 .1 .1 .1 .1 .1 .1 .0) i;
+      }
 
-own-fields-fit : (w : Words) → fieldTooWide (fieldsOf w) ≡ false
+narrow-words : (w : Words) → AllFalse (wideWords (fieldsOf w))
+narrow-words w = (
+  values-narrow LCDCON1 (w .lcdcon1),
+  (
+    values-narrow LCDCON2 (w .lcdcon2),
+    (
+      values-narrow LCDCON3 (w .lcdcon3),
+      (
+        values-narrow LCDCON4 (w .lcdcon4),
+        (
+          values-narrow LCDCON5 (w .lcdcon5),
+          (
+            values-narrow LCDSADDR1 (w .lcdsaddr1),
+            (
+              values-narrow LCDSADDR2 (w .lcdsaddr2),
+              (
+                values-narrow LCDSADDR3 (w .lcdsaddr3),
+                (values-narrow TPAL (w .tpal), tt),
+              ),
+            ),
+          ),
+        ),
+      ),
+    ),
+  ),
+)
+
+narrow : (w : Words) → fieldTooWide (fieldsOf w) ≡ false
 unfolding fieldTooWide
-own-fields-fit w =
-    none-true (wideWords (fieldsOf w)) (values-fit LCDCON1 (w .lcdcon1), (values-fit LCDCON2 (w .lcdcon2), (values-fit LCDCON3 (w .lcdcon3), (values-fit LCDCON4 (w .lcdcon4), (values-fit LCDCON5 (w .lcdcon5), (values-fit LCDSADDR1 (w .lcdsaddr1), (values-fit LCDSADDR2 (w .lcdsaddr2), (values-fit LCDSADDR3 (w .lcdsaddr3), (values-fit TPAL (w .tpal), tt)))))))))
+narrow w = none-true (wideWords (fieldsOf w)) (narrow-words w)
 
 -- words that reading takes are what the writer makes of their fields, but for their read-only bits
-pub words-read-and-written : (w : Words) (f : Fields) → Each32 w → read w ≡ accepted f → write f ≡ accepted (withoutReadOnly w)
+pub words-read-and-written : (w : Words) (f : Fields) → Each32 w → read w ≡ accepted f
+    → write f ≡ accepted (withoutReadOnly w)
 unfolding write read judged lowest
 words-read-and-written w f sizes e =
-    ap write (sym (taken .1)) ∙ rw (own-fields-fit w) (ap accepted (same-words w sizes all-clear-bits))
+    ap write (sym (taken .1)) ∙ rw (narrow w) (ap accepted (same-words w sizes clear-bits))
   where
     taken : (lowest (1 when reservedBit w ∷ []) ≡ 0) × (fieldsOf w ≡ f)
     taken = judged-accepted (lowest (1 when reservedBit w ∷ [])) (fieldsOf w) f e
 
-    all-clear-bits : reservedBit w ≡ false
-    all-clear-bits = lowest-zero-none-holds 0 (1 when reservedBit w ∷ []) tt (taken .0) .0
+    clear-bits : reservedBit w ≡ false
+    clear-bits = lowest-zero-none-holds 0 (1 when reservedBit w ∷ []) tt (taken .0) .0

@@ -25,7 +25,14 @@ fieldsRead (Refused n) = refused n
 
 -- the writable fields of each word: "read-only bits are ignored on reading"
 abbrev pub lcdcon1Of : Words → Lcdcon1
-lcdcon1Of w = record { clkval = Fields.clkval w; mmode = Fields.mmode w; pnrmode = Fields.pnrmode w; bppmode = Fields.bppmode w; envid = Fields.envid w }
+lcdcon1Of w =
+    record {
+      clkval = Fields.clkval w;
+      mmode = Fields.mmode w;
+      pnrmode = Fields.pnrmode w;
+      bppmode = Fields.bppmode w;
+      envid = Fields.envid w;
+    }
 
 abbrev pub lcdcon2Of : Words → Lcdcon2
 lcdcon2Of w = record { vbpd = Fields.vbpd w; lineval = Fields.lineval w; vfpd = Fields.vfpd w; vspw = Fields.vspw w }
@@ -37,7 +44,22 @@ abbrev pub lcdcon4Of : Words → Lcdcon4
 lcdcon4Of w = record { mval = Fields.mval w; hspw = Fields.hspw w }
 
 abbrev pub lcdcon5Of : Words → Lcdcon5
-lcdcon5Of w = record { bpp24bl = Fields.bpp24bl w; frm565 = Fields.frm565 w; invvclk = Fields.invvclk w; invvline = Fields.invvline w; invvframe = Fields.invvframe w; invvd = Fields.invvd w; invvden = Fields.invvden w; invpwren = Fields.invpwren w; invlend = Fields.invlend w; pwren = Fields.pwren w; enlend = Fields.enlend w; bswp = Fields.bswp w; hwswp = Fields.hwswp w }
+lcdcon5Of w =
+    record {
+      bpp24bl = Fields.bpp24bl w;
+      frm565 = Fields.frm565 w;
+      invvclk = Fields.invvclk w;
+      invvline = Fields.invvline w;
+      invvframe = Fields.invvframe w;
+      invvd = Fields.invvd w;
+      invvden = Fields.invvden w;
+      invpwren = Fields.invpwren w;
+      invlend = Fields.invlend w;
+      pwren = Fields.pwren w;
+      enlend = Fields.enlend w;
+      bswp = Fields.bswp w;
+      hwswp = Fields.hwswp w;
+    }
 
 abbrev pub lcdsaddr1Of : Words → Lcdsaddr1
 lcdsaddr1Of w = record { lcdbank = Fields.lcdbank w; lcdbaseu = Fields.lcdbaseu w }
@@ -52,7 +74,18 @@ abbrev pub tpalOf : Words → Tpal
 tpalOf w = record { tpalen = Fields.tpalen w; tpalval = Fields.tpalval w }
 
 abbrev pub fieldsOf : Words → Fields
-fieldsOf w = record { lcdcon1 = lcdcon1Of w; lcdcon2 = lcdcon2Of w; lcdcon3 = lcdcon3Of w; lcdcon4 = lcdcon4Of w; lcdcon5 = lcdcon5Of w; lcdsaddr1 = lcdsaddr1Of w; lcdsaddr2 = lcdsaddr2Of w; lcdsaddr3 = lcdsaddr3Of w; tpal = tpalOf w }
+fieldsOf w =
+    record {
+      lcdcon1 = lcdcon1Of w;
+      lcdcon2 = lcdcon2Of w;
+      lcdcon3 = lcdcon3Of w;
+      lcdcon4 = lcdcon4Of w;
+      lcdcon5 = lcdcon5Of w;
+      lcdsaddr1 = lcdsaddr1Of w;
+      lcdsaddr2 = lcdsaddr2Of w;
+      lcdsaddr3 = lcdsaddr3Of w;
+      tpal = tpalOf w;
+    }
 
 -- "reading fields only 1"
 unfoldable pub read : Words → Answer Fields

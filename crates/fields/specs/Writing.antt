@@ -40,7 +40,21 @@ abbrev pub lcdcon4Values : Lcdcon4 → List ℕ
 lcdcon4Values f = f .mval ∷ f .hspw ∷ []
 
 abbrev pub lcdcon5Values : Lcdcon5 → List ℕ
-lcdcon5Values f = f .bpp24bl ∷ f .frm565 ∷ f .invvclk ∷ f .invvline ∷ f .invvframe ∷ f .invvd ∷ f .invvden ∷ f .invpwren ∷ f .invlend ∷ f .pwren ∷ f .enlend ∷ f .bswp ∷ f .hwswp ∷ []
+lcdcon5Values f =
+    f .bpp24bl
+    ∷ f .frm565
+    ∷ f .invvclk
+    ∷ f .invvline
+    ∷ f .invvframe
+    ∷ f .invvd
+    ∷ f .invvden
+    ∷ f .invpwren
+    ∷ f .invlend
+    ∷ f .pwren
+    ∷ f .enlend
+    ∷ f .bswp
+    ∷ f .hwswp
+    ∷ []
 
 abbrev pub lcdsaddr1Values : Lcdsaddr1 → List ℕ
 lcdsaddr1Values f = f .lcdbank ∷ f .lcdbaseu ∷ []
@@ -55,11 +69,32 @@ abbrev pub tpalValues : Tpal → List ℕ
 tpalValues f = f .tpalen ∷ f .tpalval ∷ []
 
 abbrev pub wordsOf : Fields → Words
-wordsOf f = record { lcdcon1 = pack LCDCON1 (lcdcon1Values (f .lcdcon1)); lcdcon2 = pack LCDCON2 (lcdcon2Values (f .lcdcon2)); lcdcon3 = pack LCDCON3 (lcdcon3Values (f .lcdcon3)); lcdcon4 = pack LCDCON4 (lcdcon4Values (f .lcdcon4)); lcdcon5 = pack LCDCON5 (lcdcon5Values (f .lcdcon5)); lcdsaddr1 = pack LCDSADDR1 (lcdsaddr1Values (f .lcdsaddr1)); lcdsaddr2 = pack LCDSADDR2 (lcdsaddr2Values (f .lcdsaddr2)); lcdsaddr3 = pack LCDSADDR3 (lcdsaddr3Values (f .lcdsaddr3)); tpal = pack TPAL (tpalValues (f .tpal)) }
+wordsOf f =
+    record {
+      lcdcon1 = pack LCDCON1 (lcdcon1Values (f .lcdcon1));
+      lcdcon2 = pack LCDCON2 (lcdcon2Values (f .lcdcon2));
+      lcdcon3 = pack LCDCON3 (lcdcon3Values (f .lcdcon3));
+      lcdcon4 = pack LCDCON4 (lcdcon4Values (f .lcdcon4));
+      lcdcon5 = pack LCDCON5 (lcdcon5Values (f .lcdcon5));
+      lcdsaddr1 = pack LCDSADDR1 (lcdsaddr1Values (f .lcdsaddr1));
+      lcdsaddr2 = pack LCDSADDR2 (lcdsaddr2Values (f .lcdsaddr2));
+      lcdsaddr3 = pack LCDSADDR3 (lcdsaddr3Values (f .lcdsaddr3));
+      tpal = pack TPAL (tpalValues (f .tpal));
+    }
 
 -- for each word, whether one of its fields is too wide
 abbrev pub wideWords : Fields → List Bool
-wideWords f = tooWide LCDCON1 (lcdcon1Values (f .lcdcon1)) ∷ tooWide LCDCON2 (lcdcon2Values (f .lcdcon2)) ∷ tooWide LCDCON3 (lcdcon3Values (f .lcdcon3)) ∷ tooWide LCDCON4 (lcdcon4Values (f .lcdcon4)) ∷ tooWide LCDCON5 (lcdcon5Values (f .lcdcon5)) ∷ tooWide LCDSADDR1 (lcdsaddr1Values (f .lcdsaddr1)) ∷ tooWide LCDSADDR2 (lcdsaddr2Values (f .lcdsaddr2)) ∷ tooWide LCDSADDR3 (lcdsaddr3Values (f .lcdsaddr3)) ∷ tooWide TPAL (tpalValues (f .tpal)) ∷ []
+wideWords f =
+    tooWide LCDCON1 (lcdcon1Values (f .lcdcon1))
+    ∷ tooWide LCDCON2 (lcdcon2Values (f .lcdcon2))
+    ∷ tooWide LCDCON3 (lcdcon3Values (f .lcdcon3))
+    ∷ tooWide LCDCON4 (lcdcon4Values (f .lcdcon4))
+    ∷ tooWide LCDCON5 (lcdcon5Values (f .lcdcon5))
+    ∷ tooWide LCDSADDR1 (lcdsaddr1Values (f .lcdsaddr1))
+    ∷ tooWide LCDSADDR2 (lcdsaddr2Values (f .lcdsaddr2))
+    ∷ tooWide LCDSADDR3 (lcdsaddr3Values (f .lcdsaddr3))
+    ∷ tooWide TPAL (tpalValues (f .tpal))
+    ∷ []
 
 -- 12: writer: a field is too wide
 unfoldable pub fieldTooWide : Fields → Bool

@@ -1,10 +1,10 @@
 // Packing: each word from its lowest field up, by the bits as document 01 writes them. Read-only bits are 0.
-ghost use mathlib.Core.Bool.{false};
 ghost use mathlib.Core.Path.{_≡_};
 ghost use Prim.Native.Nat.{suc, _+_, _-_, _*_, _^_, _≤_, _<_};
 ghost use Rattle.laws.specs.BitFields.{pack, Fit};
 ghost use Rattle.registers.specs.Layouts.{LCDCON1, LCDCON2, LCDCON3, LCDCON4, LCDCON5, LCDSADDR1, LCDSADDR2, LCDSADDR3, TPAL};
-ghost use Rattle.fields.specs.Writing.{wordsOf, fieldTooWide, lcdcon1Values, lcdcon2Values, lcdcon3Values, lcdcon4Values, lcdcon5Values, lcdsaddr1Values, lcdsaddr2Values, lcdsaddr3Values, tpalValues};
+ghost use Rattle.fields.specs.Fitting.{FieldsFit};
+ghost use Rattle.fields.specs.Writing.{wordsOf, lcdcon1Values, lcdcon2Values, lcdcon3Values, lcdcon4Values, lcdcon5Values, lcdsaddr1Values, lcdsaddr2Values, lcdsaddr3Values, tpalValues};
 use super::Fields;
 use super::Lcdcon1;
 use super::Lcdcon2;
@@ -114,7 +114,7 @@ fn tpal_packed(f: Tpal) -> u32
 }
 
 pub(crate) fn words_of(f: Fields) -> Words
-    requires { ⌜ fieldTooWide f ≡ false ⌝ }
+    requires { ⌜ FieldsFit f ⌝ }
     ensures { λ r. ⌜ r ≡ wordsOf f ⌝ }
 {
     Words {

@@ -43,7 +43,13 @@ record RowSizes (w : Words) : Type 0 where
 
 row-sizes : (w : Words) → rowSizeWrong w ≡ false → RowSizes w
 unfolding rowSizeWrong
-row-sizes w e = record { bits = same (16 * pagewidth w) (width w * storedBits (bppmode w)) (or-false-left differs base₁ e₁); base = not-odd (lcdbaseu w) (or-false-right differs base₁ e₁); row = not-odd (pagewidth w) (or-false-right (differs || base₁) row₁ e₂); gap = not-odd (offsize w) (or-false-right (differs || base₁ || row₁) gap₁ e) }
+row-sizes w e =
+    record {
+      bits = same (16 * pagewidth w) (width w * storedBits (bppmode w)) (or-false-left differs base₁ e₁);
+      base = not-odd (lcdbaseu w) (or-false-right differs base₁ e₁);
+      row = not-odd (pagewidth w) (or-false-right (differs || base₁) row₁ e₂);
+      gap = not-odd (offsize w) (or-false-right (differs || base₁ || row₁) gap₁ e);
+    }
   where
     differs : Bool
     differs = not (eqb (16 * pagewidth w) (width w * storedBits (bppmode w)))
@@ -66,7 +72,19 @@ row-sizes w e = record { bits = same (16 * pagewidth w) (width w * storedBits (b
 -- words that 1 to 7 accept
 pub accepted : (w : Words) → judge w ≡ 0 → Accepted w
 unfolding judge notTft noSuchMode endDiffers pastBank
-accepted w e = record { clear = none .0; tft = same (pnrmode w) 3 (none .1 .0); mode = none .1 .1 .0; swaps = none .1 .1 .1 .0; row-bits = sizes .bits; base-even = sizes .base; row-even = sizes .row; gap-even = sizes .gap; ends = same (lcdbasel w) (rowOffset w (height w) % 2 ^ 21) (none .1 .1 .1 .1 .1 .0); last-row-inside = ltb-false (2 ^ 21) (rowOffset w (height w - 1) + pagewidth w) (none .1 .1 .1 .1 .1 .1 .0) }
+accepted w e =
+    record {
+      clear = none .0;
+      tft = same (pnrmode w) 3 (none .1 .0);
+      mode = none .1 .1 .0;
+      swaps = none .1 .1 .1 .0;
+      row-bits = sizes .bits;
+      base-even = sizes .base;
+      row-even = sizes .row;
+      gap-even = sizes .gap;
+      ends = same (lcdbasel w) (rowOffset w (height w) % 2 ^ 21) (none .1 .1 .1 .1 .1 .0);
+      last-row-inside = ltb-false (2 ^ 21) (rowOffset w (height w - 1) + pagewidth w) (none .1 .1 .1 .1 .1 .1 .0);
+    }
   where
     none : NoneHolds (wordCases w)
     none = lowest-zero-none-holds 0 (wordCases w) tt e

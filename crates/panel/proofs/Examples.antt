@@ -29,17 +29,47 @@ pub record Example : Type 0 where
 abbrev pub examples : List Example
 examples =
     -- T1, a panel of 1 by 2
-    record { words = 0x7B ∷ 0x4000 ∷ 0 ∷ 0 ∷ 0 ∷ 0x18000000 ∷ 4 ∷ 2 ∷ 0 ∷ []; hclk = 1000; clocks = 20; ticks = 40; millihertz = 25000 }
+    record {
+      words = 0x7B ∷ 0x4000 ∷ 0 ∷ 0 ∷ 0 ∷ 0x18000000 ∷ 4 ∷ 2 ∷ 0 ∷ [];
+      hclk = 1000;
+      clocks = 20;
+      ticks = 40;
+      millihertz = 25000;
+    }
     -- T8, a panel of 240 by 320, by T9's words
-    ∷ record { words = 0x479 ∷ 0x014FC041 ∷ 0x0098EF09 ∷ 0x9 ∷ 0xB09 ∷ 0x18000000 ∷ 0x12C00 ∷ 0xF0 ∷ 0 ∷ []; hclk = 100000000; clocks = 91280; ticks = 912800; millihertz = 109553 }
+    ∷ record {
+      words = 0x479 ∷ 0x014FC041 ∷ 0x0098EF09 ∷ 0x9 ∷ 0xB09 ∷ 0x18000000 ∷ 0x12C00 ∷ 0xF0 ∷ 0 ∷ [];
+      hclk = 100000000;
+      clocks = 91280;
+      ticks = 912800;
+      millihertz = 109553;
+    }
     -- the most ticks: 2048 by 1024, every porch, sync and CLKVAL at its largest
-    ∷ record { words = 0x3FF77 ∷ 0xFFFFFFFF ∷ 0x03FFFFFF ∷ 0xFF ∷ 0 ∷ 0x18000000 ∷ 0x100000 ∷ 0x400 ∷ 0 ∷ []; hclk = 4294967295; clocks = 4300800; ticks = 8808038400; millihertz = 487 }
+    ∷ record {
+      words = 0x3FF77 ∷ 0xFFFFFFFF ∷ 0x03FFFFFF ∷ 0xFF ∷ 0 ∷ 0x18000000 ∷ 0x100000 ∷ 0x400 ∷ 0 ∷ [];
+      hclk = 4294967295;
+      clocks = 4300800;
+      ticks = 8808038400;
+      millihertz = 487;
+    }
     -- the highest rate: one pixel, every part 1
-    ∷ record { words = 0x7B ∷ 0 ∷ 0 ∷ 0 ∷ 0 ∷ 0x18000000 ∷ 2 ∷ 2 ∷ 0 ∷ []; hclk = 4294967295; clocks = 16; ticks = 32; millihertz = 134217727968 }
+    ∷ record {
+      words = 0x7B ∷ 0 ∷ 0 ∷ 0 ∷ 0 ∷ 0x18000000 ∷ 2 ∷ 2 ∷ 0 ∷ [];
+      hclk = 4294967295;
+      clocks = 16;
+      ticks = 32;
+      millihertz = 134217727968;
+    }
     -- HCLK 0
     ∷ record { words = 0x7B ∷ 0 ∷ 0 ∷ 0 ∷ 0 ∷ 0x18000000 ∷ 2 ∷ 2 ∷ 0 ∷ []; hclk = 0; clocks = 16; ticks = 32; millihertz = 0 }
     -- CLKVAL 1023 at 60 MHz: a pixel clock of 30.0 kHz would give 1875000, one of 29296 Hz 1831000
-    ∷ record { words = 0x3FF7B ∷ 0 ∷ 0 ∷ 0 ∷ 0 ∷ 0x18000000 ∷ 2 ∷ 2 ∷ 0 ∷ []; hclk = 60000000; clocks = 16; ticks = 32768; millihertz = 1831054 }
+    ∷ record {
+      words = 0x3FF7B ∷ 0 ∷ 0 ∷ 0 ∷ 0 ∷ 0x18000000 ∷ 2 ∷ 2 ∷ 0 ∷ [];
+      hclk = 60000000;
+      clocks = 16;
+      ticks = 32768;
+      millihertz = 1831054;
+    }
     ∷ []
 
 abbrev pub AllHold : List Example → Type 0

@@ -16,7 +16,16 @@ pub record Timing : Type 0 where
 
 abbrev pub timing : Words → Timing
 timing w =
-    record { vspw = Fields.vspw w; vbpd = Fields.vbpd w; lineval = Fields.lineval w; vfpd = Fields.vfpd w; hspw = Fields.hspw w; hbpd = Fields.hbpd w; hozval = Fields.hozval w; hfpd = Fields.hfpd w }
+    record {
+      vspw = Fields.vspw w;
+      vbpd = Fields.vbpd w;
+      lineval = Fields.lineval w;
+      vfpd = Fields.vfpd w;
+      hspw = Fields.hspw w;
+      hbpd = Fields.hbpd w;
+      hozval = Fields.hozval w;
+      hfpd = Fields.hfpd w;
+    }
 
 -- "Line length C = (HSPW+1) + (HBPD+1) + W + (HFPD+1) clocks."
 unfoldable pub lineClocks : Timing → ℕ

@@ -137,7 +137,17 @@ tpalval w = field TPALVAL (w .tpal)
 
 -- for each word, whether a reserved bit of it is set
 abbrev pub reservedWords : Words → List Bool
-reservedWords w = reservedSet LCDCON1 (w .lcdcon1) ∷ reservedSet LCDCON2 (w .lcdcon2) ∷ reservedSet LCDCON3 (w .lcdcon3) ∷ reservedSet LCDCON4 (w .lcdcon4) ∷ reservedSet LCDCON5 (w .lcdcon5) ∷ reservedSet LCDSADDR1 (w .lcdsaddr1) ∷ reservedSet LCDSADDR2 (w .lcdsaddr2) ∷ reservedSet LCDSADDR3 (w .lcdsaddr3) ∷ reservedSet TPAL (w .tpal) ∷ []
+reservedWords w =
+    reservedSet LCDCON1 (w .lcdcon1)
+    ∷ reservedSet LCDCON2 (w .lcdcon2)
+    ∷ reservedSet LCDCON3 (w .lcdcon3)
+    ∷ reservedSet LCDCON4 (w .lcdcon4)
+    ∷ reservedSet LCDCON5 (w .lcdcon5)
+    ∷ reservedSet LCDSADDR1 (w .lcdsaddr1)
+    ∷ reservedSet LCDSADDR2 (w .lcdsaddr2)
+    ∷ reservedSet LCDSADDR3 (w .lcdsaddr3)
+    ∷ reservedSet TPAL (w .tpal)
+    ∷ []
 
 -- 1: a reserved bit is set
 unfoldable pub reservedBit : Words → Bool

@@ -113,7 +113,24 @@ abbrev pub HWSWP : Part
 HWSWP = free 0 0
 
 abbrev pub LCDCON5 : List Part
-LCDCON5 = reserved 31 17 ∷ VSTATUS ∷ HSTATUS ∷ BPP24BL ∷ FRM565 ∷ INVVCLK ∷ INVVLINE ∷ INVVFRAME ∷ INVVD ∷ INVVDEN ∷ INVPWREN ∷ INVLEND ∷ PWREN ∷ ENLEND ∷ BSWP ∷ HWSWP ∷ []
+LCDCON5 =
+    reserved 31 17
+    ∷ VSTATUS
+    ∷ HSTATUS
+    ∷ BPP24BL
+    ∷ FRM565
+    ∷ INVVCLK
+    ∷ INVVLINE
+    ∷ INVVFRAME
+    ∷ INVVD
+    ∷ INVVDEN
+    ∷ INVPWREN
+    ∷ INVLEND
+    ∷ PWREN
+    ∷ ENLEND
+    ∷ BSWP
+    ∷ HWSWP
+    ∷ []
 
 -- LCDSADDR1: LCDBANK 29..21, LCDBASEU 20..0.
 abbrev pub LCDBANK : Part

@@ -18,7 +18,17 @@ loaded (Refused n) = refused n
 -- "In this order: LCDCON1 to LCDCON5, LCDSADDR1 to LCDSADDR3, TPAL."
 abbrev pub inOrder : List ℕ → Words
 inOrder s =
-    record { lcdcon1 = getD s 0 0; lcdcon2 = getD s 1 0; lcdcon3 = getD s 2 0; lcdcon4 = getD s 3 0; lcdcon5 = getD s 4 0; lcdsaddr1 = getD s 5 0; lcdsaddr2 = getD s 6 0; lcdsaddr3 = getD s 7 0; tpal = getD s 8 0 }
+    record {
+      lcdcon1 = getD s 0 0;
+      lcdcon2 = getD s 1 0;
+      lcdcon3 = getD s 2 0;
+      lcdcon4 = getD s 3 0;
+      lcdcon5 = getD s 4 0;
+      lcdsaddr1 = getD s 5 0;
+      lcdsaddr2 = getD s 6 0;
+      lcdsaddr3 = getD s 7 0;
+      tpal = getD s 8 0;
+    }
 
 -- 10: the slice is short of nine words
 unfoldable pub shortOfNine : List ℕ → Bool

@@ -2,6 +2,7 @@
 use mathlib.Core.Path.{sym, _∙_, ap}
 use Rattle.laws.specs.Answers.{judged, accepted}
 use Rattle.laws.specs.Cases.{lowest, lower}
+use Rattle.fields.specs.Fitting.{fields-fit}
 use Rattle.fields.specs.Writing.{write}
 use Rattle.fields.proofs.write.Statement.{statement}
 use Rattle.fields.proofs.write.Tie as tie
@@ -11,7 +12,7 @@ unfolding write judged lowest lower
 returns c = rw (sym (c .before .too-wide .ensures) ∙ c .if1 .taken)
 
 words-of-requires : tie.Need-words-of-requires
-words-of-requires c κs = sym (c .before .too-wide .ensures) ∙ c .if1 .left
+words-of-requires c κs = fields-fit (c .before .before .args .f) (sym (c .before .too-wide .ensures) ∙ c .if1 .left)
 
 returns-2 : tie.Need-returns-2
 unfolding write judged lowest lower

@@ -8,4 +8,20 @@ returns : tie.Need-returns
 returns c = omega (arith, c .before .before .before .before .before .before .before)
 
 pub lcdcon5-packed-spec : {M : Type 1} → statement M
-lcdcon5-packed-spec = tie.close (tie.spec (λ c κs. search needs) (λ c κs. search needs) (λ c κs. search needs) (λ c κs. search needs) (λ c κs. search needs) (λ c κs. search needs) (λ c κs. search needs) (λ c κs. search needs) (λ c κs. search needs) (λ c κs. search needs) (λ c κs. omega (arith, c .before .before .before .before .before .before .before .before .before .before .pre)) (λ c κs. omega (arith, c .before .before .before .before .before .before .before .before .before .before .before .pre)) (λ c κs. omega (arith, c .before .before .before .before .before .before .before .before .before .before .before .before .pre)) returns)
+lcdcon5-packed-spec =
+    tie.close
+    (tie.spec
+    (λ c κs. search needs)
+    (λ c κs. search needs)
+    (λ c κs. search needs)
+    (λ c κs. search needs)
+    (λ c κs. search needs)
+    (λ c κs. search needs)
+    (λ c κs. search needs)
+    (λ c κs. search needs)
+    (λ c κs. search needs)
+    (λ c κs. search needs)
+    (λ c κs. omega (arith, c .before .before .before .before .before .before .before .before .before .before .pre))
+    (λ c κs. omega (arith, c .before .before .before .before .before .before .before .before .before .before .before .pre))
+    (λ c κs. omega (arith, c .before .before .before .before .before .before .before .before .before .before .before .before .pre))
+    returns)

@@ -3,4 +3,16 @@ use Rattle.fields.proofs.parts.fields_of.Statement.{statement}
 use Rattle.fields.proofs.parts.fields_of.Tie as tie
 
 pub fields-of-spec : {M : Type 1} → statement M
-fields-of-spec = tie.close (tie.spec (λ c κs. tt) (λ c κs. tt) (λ c κs. tt) (λ c κs. tt) (λ c κs. tt) (λ c κs. tt) (λ c κs. tt) (λ c κs. tt) (λ c κs. tt) (λ c. cc))
+fields-of-spec =
+    tie.close
+    (tie.spec
+    (λ c κs. tt)
+    (λ c κs. tt)
+    (λ c κs. tt)
+    (λ c κs. tt)
+    (λ c κs. tt)
+    (λ c κs. tt)
+    (λ c κs. tt)
+    (λ c κs. tt)
+    (λ c κs. tt)
+    (λ c. cc))

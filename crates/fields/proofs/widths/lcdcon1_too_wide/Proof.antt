@@ -4,4 +4,12 @@ use Rattle.fields.proofs.widths.lcdcon1_too_wide.Statement.{statement}
 use Rattle.fields.proofs.widths.lcdcon1_too_wide.Tie as tie
 
 pub lcdcon1-too-wide-spec : {M : Type 1} → statement M
-lcdcon1-too-wide-spec = tie.close (tie.spec (λ c κs. search needs) (λ c κs. search needs) (λ c κs. search needs) (λ c κs. search needs) (λ c κs. search needs) (λ c. cc))
+lcdcon1-too-wide-spec =
+    tie.close
+    (tie.spec
+    (λ c κs. search needs)
+    (λ c κs. search needs)
+    (λ c κs. search needs)
+    (λ c κs. search needs)
+    (λ c κs. search needs)
+    (λ c. cc))

@@ -8,7 +8,30 @@ use Rattle.fields.proofs.widths.too_wide.Tie as tie
 returns : tie.Need-returns
 unfolding fieldTooWide
 returns c =
-    rw (sym (or-never (c .before .before .before .before .before .before .before .before .tpal-too-wide .result)), c .lcdcon1-too-wide .ensures, c .before .lcdcon2-too-wide .ensures, c .before .before .lcdcon3-too-wide .ensures, c .before .before .before .lcdcon4-too-wide .ensures, c .before .before .before .before .lcdcon5-too-wide .ensures, c .before .before .before .before .before .lcdsaddr1-too-wide .ensures, c .before .before .before .before .before .before .lcdsaddr2-too-wide .ensures, c .before .before .before .before .before .before .before .lcdsaddr3-too-wide .ensures, c .before .before .before .before .before .before .before .before .tpal-too-wide .ensures)
+    rw (
+      sym (or-never (c .before .before .before .before .before .before .before .before .tpal-too-wide .result)),
+      c .lcdcon1-too-wide .ensures,
+      c .before .lcdcon2-too-wide .ensures,
+      c .before .before .lcdcon3-too-wide .ensures,
+      c .before .before .before .lcdcon4-too-wide .ensures,
+      c .before .before .before .before .lcdcon5-too-wide .ensures,
+      c .before .before .before .before .before .lcdsaddr1-too-wide .ensures,
+      c .before .before .before .before .before .before .lcdsaddr2-too-wide .ensures,
+      c .before .before .before .before .before .before .before .lcdsaddr3-too-wide .ensures,
+      c .before .before .before .before .before .before .before .before .tpal-too-wide .ensures,
+    )
 
 pub too-wide-spec : {M : Type 1} → statement M
-too-wide-spec = tie.close (tie.spec (λ c κs. tt) (λ c κs. tt) (λ c κs. tt) (λ c κs. tt) (λ c κs. tt) (λ c κs. tt) (λ c κs. tt) (λ c κs. tt) (λ c κs. tt) returns)
+too-wide-spec =
+    tie.close
+    (tie.spec
+    (λ c κs. tt)
+    (λ c κs. tt)
+    (λ c κs. tt)
+    (λ c κs. tt)
+    (λ c κs. tt)
+    (λ c κs. tt)
+    (λ c κs. tt)
+    (λ c κs. tt)
+    (λ c κs. tt)
+    returns)

@@ -45,7 +45,10 @@ returns-8 c =
     let r9 = r .0 .0 .0 .0 .1 in
     let r10 = r .0 .0 .0 .1 in
     let r11 = r .0 .0 .1 in
-    rw (outside-above m (past 13 m (past 12 m (past 11 m (past 10 m (past 9 m (past 8 m (omega arith) r8) r9) r10) r11) (r .0 .1)) (r .1)))
+    rw (
+      outside-above m (past 13 m (past 12 m (past 11 m (past 10 m (past 9 m (past 8 m (omega arith) r8) r9) r10) r11) (r .0 .1)) (r .1)),
+      outside-above m (past 13 m (past 12 m (past 11 m (past 10 m (past 9 m (past 8 m (omega arith) r8) r9) r10) r11) (r .0 .1)) (r .1)),
+    )
 
 pub stored-bits-spec : {M : Type 1} → statement M
 stored-bits-spec =

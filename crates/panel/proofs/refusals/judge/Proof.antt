@@ -104,4 +104,19 @@ returns-8 c =
 pub judge-spec : {M : Type 1} → statement M
 judge-spec =
     tie.close
-    (tie.spec (λ c κs. tt) returns (λ c κs. tt) returns-2 (λ c κs. tt) returns-3 (λ c κs. tt) returns-4 (λ c κs. tt) returns-5 (λ c κs. tt) returns-6 (λ c κs. tt) returns-7 returns-8)
+    (tie.spec
+    (λ c κs. tt)
+    returns
+    (λ c κs. tt)
+    returns-2
+    (λ c κs. tt)
+    returns-3
+    (λ c κs. tt)
+    returns-4
+    (λ c κs. tt)
+    returns-5
+    (λ c κs. tt)
+    returns-6
+    (λ c κs. tt)
+    returns-7
+    returns-8)

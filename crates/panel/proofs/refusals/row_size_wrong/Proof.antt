@@ -17,9 +17,25 @@ returns : tie.Need-returns
 unfolding rowSizeWrong
 returns c =
     let c3 = c .before .before .before in
-    rw (c3 .before .before .pagewidth .ensures, c3 .before .width .ensures, c3 .bits-of .ensures, c .before .before .lcdbaseu .ensures, c .before .pagewidth2 .ensures, c .offsize .ensures)
+    rw (
+      c3 .before .before .pagewidth .ensures,
+      c3 .before .width .ensures,
+      c3 .bits-of .ensures,
+      c .before .before .lcdbaseu .ensures,
+      c .before .pagewidth2 .ensures,
+      c .offsize .ensures,
+    )
 
 pub row-size-wrong-spec : {M : Type 1} → statement M
 row-size-wrong-spec =
     tie.close
-    (tie.spec (λ c κs. tt) (λ c. search needs) (λ c κs. tt) (λ c κs. tt) mul-pixels (λ c κs. tt) (λ c κs. tt) (λ c κs. tt) returns)
+    (tie.spec
+    (λ c κs. tt)
+    (λ c. search needs)
+    (λ c κs. tt)
+    (λ c κs. tt)
+    mul-pixels
+    (λ c κs. tt)
+    (λ c κs. tt)
+    (λ c κs. tt)
+    returns)

@@ -20,4 +20,12 @@ returns c = rw (c .before .clkval .ensures, c .frame-clocks .ensures)
 pub frame-ticks-spec : {M : Type 1} → statement M
 frame-ticks-spec =
     tie.close
-    (tie.spec (λ c κs. tt) (λ c. search needs) (λ c. search needs) (λ c. search needs) (λ c κs. tt) (λ c. search needs) mul-result-2 returns)
+    (tie.spec
+    (λ c κs. tt)
+    (λ c. search needs)
+    (λ c. search needs)
+    (λ c. search needs)
+    (λ c κs. tt)
+    (λ c. search needs)
+    mul-result-2
+    returns)
