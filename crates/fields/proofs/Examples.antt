@@ -1,5 +1,5 @@
--- T9 of document 01 ("Both sides of the line"), tried on the definitions: the nine words of the 240 by 320 panel from its fields and
--- back, and one field a bit too wide. Assumes nothing.
+-- T9 of document 01 ("Both sides of the line"), tried on the definitions: the nine words of the 240 by 320 panel from its
+-- fields and back, and one field a bit too wide. Assumes nothing.
 use mathlib.Core.Path.{_≡_, refl}
 use Prim.Native.Nat.{ℕ}
 use Rattle.laws.specs.Answers.{accepted, refused, judged}
@@ -18,7 +18,21 @@ panel pagewidth =
       lcdcon2 = record { vbpd = 1; lineval = 319; vfpd = 1; vspw = 1 };
       lcdcon3 = record { hbpd = 19; hozval = 239; hfpd = 9 };
       lcdcon4 = record { mval = 0; hspw = 9 };
-      lcdcon5 = record { bpp24bl = 0; frm565 = 1; invvclk = 0; invvline = 1; invvframe = 1; invvd = 0; invvden = 0; invpwren = 0; invlend = 0; pwren = 1; enlend = 0; bswp = 0; hwswp = 1 };
+      lcdcon5 = record {
+        bpp24bl = 0;
+        frm565 = 1;
+        invvclk = 0;
+        invvline = 1;
+        invvframe = 1;
+        invvd = 0;
+        invvden = 0;
+        invpwren = 0;
+        invlend = 0;
+        pwren = 1;
+        enlend = 0;
+        bswp = 0;
+        hwswp = 1;
+      };
       lcdsaddr1 = record { lcdbank = 192; lcdbaseu = 0 };
       lcdsaddr2 = record { lcdbasel = 76800 };
       lcdsaddr3 = record { offsize = 0; pagewidth = pagewidth };

@@ -16,7 +16,8 @@ use Rattle.registers.specs.declared.Words.{Words}
 use Rattle.fields.specs.Fitting.{FieldsFit, fields-fit}
 use Rattle.fields.specs.Reading.{read, fieldsOf}
 use Rattle.fields.specs.Writing.{write, wordsOf, fieldTooWide, wideWords}
-use Rattle.fields.specs.Writing.{lcdcon1Values, lcdcon2Values, lcdcon3Values, lcdcon4Values, lcdcon5Values, lcdsaddr1Values, lcdsaddr2Values, lcdsaddr3Values, tpalValues}
+use Rattle.fields.specs.Writing.{lcdcon1Values, lcdcon2Values, lcdcon3Values, lcdcon4Values, lcdcon5Values}
+use Rattle.fields.specs.Writing.{lcdsaddr1Values, lcdsaddr2Values, lcdsaddr3Values, tpalValues}
 use Rattle.fields.specs.declared.Fields.{Fields}
 use Rattle.fields.specs.declared.Lcdcon1.{Lcdcon1}
 use Rattle.fields.specs.declared.Lcdcon2.{Lcdcon2}

@@ -6,7 +6,8 @@ use Rattle.laws.specs.BitFields.RoundTrip.{all-fit}
 use Rattle.laws.specs.Booleans.{AllFalse, all-false}
 use Rattle.registers.specs.Layouts.{LCDCON1, LCDCON2, LCDCON3, LCDCON4, LCDCON5, LCDSADDR1, LCDSADDR2, LCDSADDR3, TPAL}
 use Rattle.fields.specs.Writing.{fieldTooWide, wideWords}
-use Rattle.fields.specs.Writing.{lcdcon1Values, lcdcon2Values, lcdcon3Values, lcdcon4Values, lcdcon5Values, lcdsaddr1Values, lcdsaddr2Values, lcdsaddr3Values, tpalValues}
+use Rattle.fields.specs.Writing.{lcdcon1Values, lcdcon2Values, lcdcon3Values, lcdcon4Values, lcdcon5Values}
+use Rattle.fields.specs.Writing.{lcdsaddr1Values, lcdsaddr2Values, lcdsaddr3Values, tpalValues}
 use Rattle.fields.specs.declared.Fields.{Fields}
 
 pub record FieldsFit (f : Fields) : Type 0 where

@@ -1,6 +1,8 @@
 // The writable fields of each word, as the registers give them.
 ghost use mathlib.Core.Path.{_≡_};
-ghost use Rattle.fields.specs.Reading.{fieldsOf, lcdcon1Of, lcdcon2Of, lcdcon3Of, lcdcon4Of, lcdcon5Of, lcdsaddr1Of, lcdsaddr2Of, lcdsaddr3Of, tpalOf};
+ghost use Rattle.fields.specs.Reading.{fieldsOf};
+ghost use Rattle.fields.specs.Reading.{lcdcon1Of, lcdcon2Of, lcdcon3Of, lcdcon4Of, lcdcon5Of};
+ghost use Rattle.fields.specs.Reading.{lcdsaddr1Of, lcdsaddr2Of, lcdsaddr3Of, tpalOf};
 use super::Fields;
 use super::Lcdcon1;
 use super::Lcdcon2;

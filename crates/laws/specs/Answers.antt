@@ -45,6 +45,7 @@ pub passes-on : {A B : Type 0} (x : Answer A) (f : A → Answer B) (n : ℕ) →
 unfolding andThen
 passes-on x f n e = ap (λ (y : Answer _). andThen y f) e
 
-pub goes-on : {A B : Type 0} (x : Answer A) (f : A → Answer B) (a : A) (b : Answer B) → accepted a ≡ x → b ≡ f a → b ≡ andThen x f
+pub goes-on : {A B : Type 0} (x : Answer A) (f : A → Answer B) (a : A) (b : Answer B) → accepted a ≡ x → b ≡ f a
+    → b ≡ andThen x f
 unfolding andThen
 goes-on x f a b e v = v ∙ ap (λ (y : Answer _). andThen y f) e

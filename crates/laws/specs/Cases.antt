@@ -41,6 +41,13 @@ abbrev pub ascending : ℕ → List Case → Bool
 ascending n [] = true
 ascending n (c ∷ cs) = ltb n (c .number) && ascending (c .number) cs
 
+module _ (n : ℕ) (c : Case) (cs : List Case) (t : T (ascending n (c ∷ cs))) where
+  rises : n < c .number
+  rises = ltb→lt n (c .number) (and-left (ltb n (c .number)) (ascending (c .number) cs) t)
+
+  onward : T (ascending (c .number) cs)
+  onward = and-right (ltb n (c .number)) (ascending (c .number) cs) t
+
 lower-keeps : (n m : ℕ) → 0 < n → (m ≡ 0) ⊎ (n < m) → lower n m ≡ n
 unfolding lower
 lower-keeps zero m h o = omega arith
@@ -50,31 +57,38 @@ lower-keeps (suc n) (suc m) h o = ⊎-elim (λ e. omega arith) (λ l. omega arit
 first-above : (n : ℕ) (cs : List Case) → T (ascending n cs) → (first cs ≡ 0) ⊎ (n < first cs)
 unfolding first
 first-above n [] t = inl refl
-first-above n (c ∷ cs) t = go (c .holds) (first-above (c .number) cs (and-right (ltb n (c .number)) _ t))
+first-above n (c ∷ cs) t = go (c .holds) (first-above (c .number) cs (onward n c cs t))
   where
-    above : n < c .number
-    above = ltb→lt n (c .number) (and-left (ltb n (c .number)) _ t)
-
-    go : (b : Bool) → (first cs ≡ 0) ⊎ (c .number < first cs) → (cond b (c .number) (first cs) ≡ 0) ⊎ (n < cond b (c .number) (first cs))
-    go true o = inr above
+    go : (b : Bool) → (first cs ≡ 0) ⊎ (c .number < first cs)
+        → (cond b (c .number) (first cs) ≡ 0) ⊎ (n < cond b (c .number) (first cs))
+    go true o = inr (rises n c cs t)
     go false (inl e) = inl e
-    go false (inr l) = inr (lt-trans above l)
+    go false (inr l) = inr (lt-trans (rises n c cs t) l)
 
 -- in an ascending list the first condition that holds has the lowest number
 pub lowest-of-ascending-is-first : (n : ℕ) (cs : List Case) → T (ascending n cs) → lowest cs ≡ first cs
 unfolding lowest first
 lowest-of-ascending-is-first n [] t = refl
-lowest-of-ascending-is-first n (c ∷ cs) t = go (c .holds) (lowest-of-ascending-is-first (c .number) cs rest)
+lowest-of-ascending-is-first n (c ∷ cs) t = go (c .holds) (lowest-of-ascending-is-first (c .number) cs (onward n c cs t))
   where
-    above : n < c .number
-    above = ltb→lt n (c .number) (and-left (ltb n (c .number)) _ t)
+    keeps : lower (c .number) (first cs) ≡ c .number
+    keeps =
+        lower-keeps (c .number) (first cs) (omega (arith, rises n c cs t))
+        (first-above (c .number) cs (onward n c cs t))
 
-    rest : T (ascending (c .number) cs)
-    rest = and-right (ltb n (c .number)) _ t
-
-    go : (b : Bool) → lowest cs ≡ first cs → cond b (lower (c .number) (lowest cs)) (lowest cs) ≡ cond b (c .number) (first cs)
-    go true e = ap (lower (c .number)) e ∙ lower-keeps (c .number) (first cs) (omega (arith, above)) (first-above (c .number) cs rest)
+    go : (b : Bool) → lowest cs ≡ first cs
+        → cond b (lower (c .number) (lowest cs)) (lowest cs) ≡ cond b (c .number) (first cs)
+    go true e = ap (lower (c .number)) e ∙ keeps
     go false e = e
+
+-- how a program looks: past a condition that does not hold, stopping at one that does
+pub skips : (r n : ℕ) (b : Bool) (cs : List Case) → r ≡ first (n when b ∷ cs) → b ≡ false → r ≡ first cs
+unfolding first
+skips r n b cs e f = rw f at e
+
+pub stops : (r n : ℕ) (b : Bool) (cs : List Case) → r ≡ first (n when b ∷ cs) → b ≡ true → n ≡ r
+unfolding first
+stops r n b cs e t = sym (rw t at e)
 
 -- ---- what acceptance says
 
@@ -86,13 +100,11 @@ NoneHolds (c ∷ cs) = (c .holds ≡ false) × NoneHolds cs
 first-none : (n : ℕ) (cs : List Case) → T (ascending n cs) → first cs ≡ 0 → NoneHolds cs
 unfolding first
 first-none n [] t e = tt
-first-none n (c ∷ cs) t e = go (c .holds) (first-none (c .number) cs (and-right (ltb n (c .number)) _ t)) e
+first-none n (c ∷ cs) t e = go (c .holds) (first-none (c .number) cs (onward n c cs t)) e
   where
-    above : n < c .number
-    above = ltb→lt n (c .number) (and-left (ltb n (c .number)) _ t)
-
-    go : (b : Bool) → (first cs ≡ 0 → NoneHolds cs) → cond b (c .number) (first cs) ≡ 0 → (b ≡ false) × NoneHolds cs
-    go true f z = absurd (omega (arith, above, z))
+    go : (b : Bool) → (first cs ≡ 0 → NoneHolds cs) → cond b (c .number) (first cs) ≡ 0
+        → (b ≡ false) × NoneHolds cs
+    go true f z = absurd (omega (arith, rises n c cs t, z))
     go false f z = (refl, f z)
 
 -- where the lowest number is 0, no condition holds

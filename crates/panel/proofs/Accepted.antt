@@ -103,7 +103,9 @@ whole-words n s p q pos fill e =
 even-product : (r p : ℕ) → p % 2 ≡ 0 → (r * p) % 2 ≡ 0
 even-product r p e =
     let halves : p ≡ p / 2 * 2 = omega arith in
-    ap (λ (x : ℕ). (r * x) % 2) halves ∙ ap (λ (x : ℕ). x % 2) (sym (mul-assoc r (p / 2) 2)) ∙ mul-mod-left (r * (p / 2)) 2
+    ap (λ (x : ℕ). (r * x) % 2) halves
+    ∙ ap (λ (x : ℕ). x % 2) (sym (mul-assoc r (p / 2) 2))
+    ∙ mul-mod-left (r * (p / 2)) 2
 
 second-false : (a b : Bool) → a && b ≡ false → a ≡ true → b ≡ false
 second-false true b e t = e
@@ -149,11 +151,13 @@ module _ (w : Words) (a : Accepted w) where
   unfolding bytes
   bswp-legal e =
       ltb-false 8 (storedBits (bppmode w))
-      (second-false (eqb (bswp w) 1) (ltb 8 (storedBits (bppmode w))) (or-false-left bytes halves each-swap) (eq-eqb (bswp w) 1 e))
+      (second-false (eqb (bswp w) 1) (ltb 8 (storedBits (bppmode w)))
+      (or-false-left bytes halves each-swap) (eq-eqb (bswp w) 1 e))
 
   -- HWSWP only where it has 16
   pub hwswp-legal : hwswp w ≡ 1 → storedBits (bppmode w) ≡ 16
   unfolding halves
   hwswp-legal e =
       same (storedBits (bppmode w)) 16
-      (second-false (eqb (hwswp w) 1) (not (eqb (storedBits (bppmode w)) 16)) (or-false-right bytes halves each-swap) (eq-eqb (hwswp w) 1 e))
+      (second-false (eqb (hwswp w) 1) (not (eqb (storedBits (bppmode w)) 16))
+      (or-false-right bytes halves each-swap) (eq-eqb (hwswp w) 1 e))

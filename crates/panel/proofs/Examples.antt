@@ -1,5 +1,5 @@
--- Worked examples of document 01 ("The bench", "Both sides of the line"), tried on the definitions: T1's counts, T8 and T11, with
--- the extremes of ticks and rate, and the rate that a rounded pixel clock would miss. Assumes nothing.
+-- Worked examples of document 01 ("The bench", "Both sides of the line"), tried on the definitions: T1's counts, T8 and T11,
+-- with the extremes of ticks and rate, and the rate that a rounded pixel clock would miss. Assumes nothing.
 use mathlib.Core.Bool.{true, false}
 use mathlib.Core.List.{List, [], _∷_}
 use mathlib.Core.Path.{_≡_, refl, sym, ap, ap₂, _∙_}
@@ -26,50 +26,24 @@ pub record Example : Type 0 where
   pub ticks : ℕ
   pub millihertz : ℕ
 
+abbrev row : List ℕ → ℕ → ℕ → ℕ → ℕ → Example
+row words hclk clocks ticks millihertz =
+    record { words = words; hclk = hclk; clocks = clocks; ticks = ticks; millihertz = millihertz }
+
 abbrev pub examples : List Example
 examples =
     -- T1, a panel of 1 by 2
-    record {
-      words = 0x7B ∷ 0x4000 ∷ 0 ∷ 0 ∷ 0 ∷ 0x18000000 ∷ 4 ∷ 2 ∷ 0 ∷ [];
-      hclk = 1000;
-      clocks = 20;
-      ticks = 40;
-      millihertz = 25000;
-    }
+    row (0x7B ∷ 0x4000 ∷ 0 ∷ 0 ∷ 0 ∷ 0x18000000 ∷ 4 ∷ 2 ∷ 0 ∷ []) 1000 20 40 25000
     -- T8, a panel of 240 by 320, by T9's words
-    ∷ record {
-      words = 0x479 ∷ 0x014FC041 ∷ 0x0098EF09 ∷ 0x9 ∷ 0xB09 ∷ 0x18000000 ∷ 0x12C00 ∷ 0xF0 ∷ 0 ∷ [];
-      hclk = 100000000;
-      clocks = 91280;
-      ticks = 912800;
-      millihertz = 109553;
-    }
+    ∷ row (0x479 ∷ 0x014FC041 ∷ 0x0098EF09 ∷ 0x9 ∷ 0xB09 ∷ 0x18000000 ∷ 0x12C00 ∷ 0xF0 ∷ 0 ∷ []) 100000000 91280 912800 109553
     -- the most ticks: 2048 by 1024, every porch, sync and CLKVAL at its largest
-    ∷ record {
-      words = 0x3FF77 ∷ 0xFFFFFFFF ∷ 0x03FFFFFF ∷ 0xFF ∷ 0 ∷ 0x18000000 ∷ 0x100000 ∷ 0x400 ∷ 0 ∷ [];
-      hclk = 4294967295;
-      clocks = 4300800;
-      ticks = 8808038400;
-      millihertz = 487;
-    }
+    ∷ row (0x3FF77 ∷ 0xFFFFFFFF ∷ 0x03FFFFFF ∷ 0xFF ∷ 0 ∷ 0x18000000 ∷ 0x100000 ∷ 0x400 ∷ 0 ∷ []) 4294967295 4300800 8808038400 487
     -- the highest rate: one pixel, every part 1
-    ∷ record {
-      words = 0x7B ∷ 0 ∷ 0 ∷ 0 ∷ 0 ∷ 0x18000000 ∷ 2 ∷ 2 ∷ 0 ∷ [];
-      hclk = 4294967295;
-      clocks = 16;
-      ticks = 32;
-      millihertz = 134217727968;
-    }
+    ∷ row (0x7B ∷ 0 ∷ 0 ∷ 0 ∷ 0 ∷ 0x18000000 ∷ 2 ∷ 2 ∷ 0 ∷ []) 4294967295 16 32 134217727968
     -- HCLK 0
-    ∷ record { words = 0x7B ∷ 0 ∷ 0 ∷ 0 ∷ 0 ∷ 0x18000000 ∷ 2 ∷ 2 ∷ 0 ∷ []; hclk = 0; clocks = 16; ticks = 32; millihertz = 0 }
+    ∷ row (0x7B ∷ 0 ∷ 0 ∷ 0 ∷ 0 ∷ 0x18000000 ∷ 2 ∷ 2 ∷ 0 ∷ []) 0 16 32 0
     -- CLKVAL 1023 at 60 MHz: a pixel clock of 30.0 kHz would give 1875000, one of 29296 Hz 1831000
-    ∷ record {
-      words = 0x3FF7B ∷ 0 ∷ 0 ∷ 0 ∷ 0 ∷ 0x18000000 ∷ 2 ∷ 2 ∷ 0 ∷ [];
-      hclk = 60000000;
-      clocks = 16;
-      ticks = 32768;
-      millihertz = 1831054;
-    }
+    ∷ row (0x3FF7B ∷ 0 ∷ 0 ∷ 0 ∷ 0 ∷ 0x18000000 ∷ 2 ∷ 2 ∷ 0 ∷ []) 60000000 16 32768 1831054
     ∷ []
 
 abbrev pub AllHold : List Example → Type 0
@@ -98,7 +72,8 @@ never-fits w m v =
     rw (ne-eqb (16 * pagewidth w) (width w * storedBits (bppmode w)) (λ e. omega (arith, bits, e)))
 
 -- and width 1024 gives 5 with any field, where 1 to 4 do not apply
-pub width-1024 : (w : Words) → bppmode w ≡ 13 → width w ≡ 1024 → reservedBit w ≡ false → notTft w ≡ false → swapsIllegal w ≡ false → judge w ≡ 5
+pub width-1024 : (w : Words) → bppmode w ≡ 13 → width w ≡ 1024 → reservedBit w ≡ false
+    → notTft w ≡ false → swapsIllegal w ≡ false → judge w ≡ 5
 unfolding judge first noSuchMode outsideModes
 width-1024 w m v clear tft swaps =
     lowest-of-ascending-is-first 0 (wordCases w) tt ∙ rw (clear, tft, ap outsideModes m, swaps, never-fits w m v)

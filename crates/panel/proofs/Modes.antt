@@ -31,7 +31,8 @@ past n mode l ne = omega arith
 
 -- ---- what an answer says of the mode
 
-pub accepted-mode : (mode bits : ℕ) → accepted bits ≡ depthOf mode → (outsideModes mode ≡ false) × (bits ≡ storedBits mode)
+pub accepted-mode : (mode bits : ℕ) → accepted bits ≡ depthOf mode
+    → (outsideModes mode ≡ false) × (bits ≡ storedBits mode)
 unfolding depthOf
 accepted-mode mode bits e = (lowest-zero-none-holds 0 (3 when outsideModes mode ∷ []) tt (taken .0) .0, sym (taken .1))
   where
@@ -60,8 +61,8 @@ inside-range mode o =
     (leb-true 8 mode low, leb-true mode 13 high)
 
 -- what holds of each stored size holds of the one that a mode selects
-pub size-passes : (p : ℕ → Bool) → T (every p (1 ∷ 2 ∷ 4 ∷ 8 ∷ 16 ∷ 32 ∷ [])) → (mode : ℕ) → outsideModes mode ≡ false
-    → T (p (storedBits mode))
+pub size-passes : (p : ℕ → Bool) → T (every p (1 ∷ 2 ∷ 4 ∷ 8 ∷ 16 ∷ 32 ∷ [])) → (mode : ℕ)
+    → outsideModes mode ≡ false → T (p (storedBits mode))
 unfolding storedBits
 size-passes p t mode o =
     let range = inside-range mode o in

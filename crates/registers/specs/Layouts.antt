@@ -170,5 +170,15 @@ abbrev pub TPAL : List Part
 TPAL = reserved 31 25 ∷ TPALEN ∷ TPALVAL ∷ []
 
 -- each of the 32 bits of each word lies in one part
-pub each-bit-once : T (tiles 32 LCDCON1 && tiles 32 LCDCON2 && tiles 32 LCDCON3 && tiles 32 LCDCON4 && tiles 32 LCDCON5 && tiles 32 LCDSADDR1 && tiles 32 LCDSADDR2 && tiles 32 LCDSADDR3 && tiles 32 TPAL)
+pub each-bit-once :
+    T
+    (tiles 32 LCDCON1
+    && tiles 32 LCDCON2
+    && tiles 32 LCDCON3
+    && tiles 32 LCDCON4
+    && tiles 32 LCDCON5
+    && tiles 32 LCDSADDR1
+    && tiles 32 LCDSADDR2
+    && tiles 32 LCDSADDR3
+    && tiles 32 TPAL)
 each-bit-once = tt

@@ -1,4 +1,5 @@
--- The nine words lent as a slice (document 01, "The nine words" and refusal 10 for "a slice short of nine words"). Assumes nothing.
+-- The nine words lent as a slice (document 01, "The nine words", and refusal 10 for "a slice short of nine words").
+-- Assumes nothing.
 use mathlib.Core.Bool.{Bool}
 use mathlib.Core.List.{List, [], _∷_}
 use Prim.Native.Nat.{ℕ}

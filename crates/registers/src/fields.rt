@@ -1,7 +1,16 @@
 // The fields of the nine words, each cut from its word by shift and mask (document 01, "The nine words").
 ghost use mathlib.Core.Path.{_≡_};
 ghost use Prim.Native.Nat.{suc, _-_, _/_, _%_, _^_, _≤_, _<_};
-ghost use Rattle.registers.specs.Fields.{linecnt, clkval, mmode, pnrmode, bppmode, envid, vbpd, lineval, vfpd, vspw, hbpd, hozval, hfpd, mval, hspw, vstatus, hstatus, bpp24bl, frm565, invvclk, invvline, invvframe, invvd, invvden, invpwren, invlend, pwren, enlend, bswp, hwswp, lcdbank, lcdbaseu, lcdbasel, offsize, pagewidth, tpalen, tpalval, reservedBit};
+ghost use Rattle.registers.specs.Fields.{linecnt, clkval, mmode, pnrmode, bppmode, envid};
+ghost use Rattle.registers.specs.Fields.{vbpd, lineval, vfpd, vspw};
+ghost use Rattle.registers.specs.Fields.{hbpd, hozval, hfpd};
+ghost use Rattle.registers.specs.Fields.{mval, hspw};
+ghost use Rattle.registers.specs.Fields.{vstatus, hstatus, bpp24bl, frm565, invvclk, invvline, invvframe, invvd, invvden, invpwren, invlend, pwren, enlend, bswp, hwswp};
+ghost use Rattle.registers.specs.Fields.{lcdbank, lcdbaseu};
+ghost use Rattle.registers.specs.Fields.{lcdbasel};
+ghost use Rattle.registers.specs.Fields.{offsize, pagewidth};
+ghost use Rattle.registers.specs.Fields.{tpalen, tpalval};
+ghost use Rattle.registers.specs.Fields.{reservedBit};
 use super::Words;
 
 // Bits high down to low of a word.

@@ -12,7 +12,8 @@ use lib.Dec.{T, ltb, leb, eqb, leb→le, eqb→eq}
 use lib.ListN.{length}
 use lib.Pow.{pow-pos, pow-add, high, low, mod-pow-add}
 use Rattle.laws.specs.Booleans.{and-left, and-right, or-false-left, or-false-right, or-false}
-use Rattle.laws.specs.BitFields.{Access, Free, ReadOnly, Reserved, Part, width, field, tiles, ifReserved, reservedSet, listed, values, freeParts, next, rest, pack, tooWide, Fit, ifReadOnly, readOnlyBits}
+use Rattle.laws.specs.BitFields.{Access, Free, ReadOnly, Reserved, Part, width, field, tiles, reservedSet, values, freeParts}
+use Rattle.laws.specs.BitFields.{pack, tooWide, Fit, readOnlyBits, ifReserved, ifReadOnly, listed, next, rest}
 
 -- ---- a part of a layout that tiles
 
@@ -69,7 +70,8 @@ module _ (q n : ℕ) (p : Part) (ps : List Part) (vs : List ℕ) (t : T (tiles n
   unfolding above
   field-packed =
       ap (field p) regrouped
-      ∙ ap (λ (x : ℕ). x % 2 ^ width p) (high above (p .low) (pack-lt (p .low) ps (rest (p .access) vs) (below n p ps t) (f .1)))
+      ∙ ap (λ (x : ℕ). x % 2 ^ width p)
+      (high above (p .low) (pack-lt (p .low) ps (rest (p .access) vs) (below n p ps t) (f .1)))
       ∙ low q (width p) (f .0)
 
 -- as many values as free parts: each free part takes one
@@ -147,7 +149,11 @@ packed-values : (n : ℕ) (ps : List Part) (w : ℕ) → T (tiles n ps) → rese
 packed-values n [] w t r = rw (eqb→eq n 0 t) (omega arith)
 packed-values n (p ∷ ps) w t r =
     rw (reaches n p ps t, mod-pow-add w (width p) (p .low), rest-listed (p .access) (field p w) (values ps w))
-    (omega (arith, split-by-access (p .access) (field p w) (2 ^ p .low) (values ps w) here, packed-values (p .low) ps w (below n p ps t) others))
+    (omega (
+      arith,
+      split-by-access (p .access) (field p w) (2 ^ p .low) (values ps w) here,
+      packed-values (p .low) ps w (below n p ps t) others,
+    ))
   where
     others : reservedSet ps w ≡ false
     others = or-false-left (reservedSet ps w) (ifReserved (p .access) (ltb 0 (field p w))) r

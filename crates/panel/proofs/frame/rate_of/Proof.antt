@@ -11,7 +11,8 @@ returns c = gives-refusal (c .before .judge .result) _ _ (c .before .judge .ensu
 returns-2 : tie.Need-returns-2
 unfolding rateOf
 returns-2 c =
-    gives-answer (c .before .before .judge .result) _ _ _ (c .before .before .judge .ensures) (c .before .if1 .left) (c .millihertz .ensures)
+    let judged = c .before .before .judge in
+    gives-answer (judged .result) _ _ _ (judged .ensures) (c .before .if1 .left) (c .millihertz .ensures)
 
 pub rate-of-spec : {M : Type 1} → statement M
 rate-of-spec = tie.close (tie.spec (λ c κs. tt) returns (λ c κs. tt) returns-2)

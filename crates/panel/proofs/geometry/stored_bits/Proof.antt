@@ -1,4 +1,5 @@
--- `panel::geometry::stored_bits` meets its contract: a key is a row of the mode table, and the two ranges lie outside it. Assumes nothing.
+-- `panel::geometry::stored_bits` meets its contract: a key is a row of the mode table, and the two ranges lie outside it.
+-- Assumes nothing.
 use Prim.Native.Nat.{_<_}
 use native.Mathlib.Omega.{arith}
 use Rattle.laws.specs.Answers.{judged}
@@ -41,14 +42,10 @@ unfolding depthOf judged lowest lower
 returns-8 c =
     let m = c .before .before .args .mode in
     let r = c .before .match .rest in
-    let r8 = r .0 .0 .0 .0 .0 .1 in
-    let r9 = r .0 .0 .0 .0 .1 in
-    let r10 = r .0 .0 .0 .1 in
-    let r11 = r .0 .0 .1 in
-    rw (
-      outside-above m (past 13 m (past 12 m (past 11 m (past 10 m (past 9 m (past 8 m (omega arith) r8) r9) r10) r11) (r .0 .1)) (r .1)),
-      outside-above m (past 13 m (past 12 m (past 11 m (past 10 m (past 9 m (past 8 m (omega arith) r8) r9) r10) r11) (r .0 .1)) (r .1)),
-    )
+    let past-9 = past 9 m (past 8 m (omega arith) (r .0 .0 .0 .0 .0 .1)) (r .0 .0 .0 .0 .1) in
+    let past-11 = past 11 m (past 10 m past-9 (r .0 .0 .0 .1)) (r .0 .0 .1) in
+    let past-13 = past 13 m (past 12 m past-11 (r .0 .1)) (r .1) in
+    rw (outside-above m past-13)
 
 pub stored-bits-spec : {M : Type 1} → statement M
 stored-bits-spec =

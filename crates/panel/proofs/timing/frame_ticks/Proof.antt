@@ -11,7 +11,8 @@ use Rattle.panel.proofs.timing.frame_ticks.Tie as tie
 mul-result-2 : tie.Need-mul-result-2
 mul-result-2 c =
     let bound = frame-clocks-le (c .before .before .args .w) in
-    omega (arith, product-le (2 * (c .before .clkval .result + 1)) 2048 (c .frame-clocks .result) 4300800 (omega arith) (omega arith))
+    let factor = 2 * (c .before .clkval .result + 1) in
+    omega (arith, product-le factor 2048 (c .frame-clocks .result) 4300800 (omega arith) (omega arith))
 
 returns : tie.Need-returns
 unfolding frameTicks
