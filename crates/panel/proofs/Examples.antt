@@ -11,7 +11,7 @@ use Rattle.laws.specs.Cases.{lowest, lower, first, lowest-of-ascending-is-first
 use Rattle.registers.specs.Fields.{bppmode, pagewidth, reservedBit}
 use Rattle.registers.specs.Loading.{load, shortOfNine}
 use Rattle.registers.specs.declared.Words.{Words}
-use Rattle.panel.specs.Counts.{counts, countsOf, rate, rateOf, frameTicks, frameRate}
+use Rattle.panel.specs.Counts.{counts, countsOf, rate, rateOf, frameTicks}
 use Rattle.panel.specs.Geometry.{width, storedBits, outsideModes, rowOffset}
 use Rattle.panel.specs.Refusals.{notTft, noSuchMode, swapsIllegal, rowSizeWrong, endDiffers, pastBank, judge, wordCases}
 use Rattle.panel.specs.Timing.{lineClocks, frameLines, frameClocks}
@@ -54,7 +54,7 @@ AllHold (x ∷ xs) =
     × AllHold xs
 
 pub examples-hold : AllHold examples
-unfolding counts countsOf rate rateOf andThen load shortOfNine judged judge lowest lower reservedBit notTft noSuchMode outsideModes swapsIllegal storedBits rowSizeWrong endDiffers pastBank rowOffset lineClocks frameLines frameClocks frameTicks frameRate
+unfolding counts countsOf rate rateOf andThen load shortOfNine judged judge lowest lower reservedBit notTft noSuchMode outsideModes swapsIllegal storedBits rowSizeWrong endDiffers pastBank rowOffset lineClocks frameLines frameClocks frameTicks
 examples-hold = (refl, refl, (refl, refl, (refl, refl, (refl, refl, (refl, refl, (refl, refl, tt))))))
 
 -- ---- T11: 24 bits

@@ -28,7 +28,7 @@ unfoldable pub frameTicks : Words → ℕ
 frameTicks w = 2 * (clkval w + 1) * frameClocks (timing w)
 
 -- "Rate in millihertz: HCLK in Hz × 1000 over the ticks, rounded down."
-unfoldable pub frameRate : Words → ℕ → ℕ
+abbrev pub frameRate : Words → ℕ → ℕ
 frameRate w hclk = hclk * 1000 / frameTicks w
 
 -- a frame's clocks and ticks: "counts and rate are judged by 1 to 7"

@@ -1,23 +1,39 @@
-// Clocks and lines of a frame.
+// Clocks and lines of a frame (document 01, "Clocks and lines").
 ghost use mathlib.Core.Path.{_≡_};
+ghost use Prim.Native.Nat.{_+_};
+ghost use Rattle.registers.specs.Fields.{vspw, vbpd, vfpd, hspw, hbpd, hfpd};
 ghost use Rattle.panel.specs.Counts.{frameTicks};
 ghost use Rattle.panel.specs.Timing.{timing, lineClocks, frameLines, frameClocks};
 use super::geometry::height;
 use super::geometry::width;
 use registers::Words;
 
-// Clocks in a line: sync, back porch, active and front porch.
+// Clocks of a line that show nothing: sync, back porch and front porch.
+fn blank_clocks(w: Words) -> u32
+    ensures { λ r. ⌜ r ≡ (hspw w + 1) + (hbpd w + 1) + (hfpd w + 1) ⌝ }
+{
+    (w.hspw() + 1) + (w.hbpd() + 1) + (w.hfpd() + 1)
+}
+
+// Clocks in a line.
 pub fn line_clocks(w: Words) -> u32
     ensures { λ r. ⌜ r ≡ lineClocks (timing w) ⌝ }
 {
-    (w.hspw() + 1) + (w.hbpd() + 1) + width(w) + (w.hfpd() + 1)
+    blank_clocks(w) + width(w)
 }
 
-// Lines in a frame: sync, back porch, active and front porch.
+// Lines of a frame that show nothing: sync, back porch and front porch.
+fn blank_lines(w: Words) -> u32
+    ensures { λ r. ⌜ r ≡ (vspw w + 1) + (vbpd w + 1) + (vfpd w + 1) ⌝ }
+{
+    (w.vspw() + 1) + (w.vbpd() + 1) + (w.vfpd() + 1)
+}
+
+// Lines in a frame.
 pub fn frame_lines(w: Words) -> u32
     ensures { λ r. ⌜ r ≡ frameLines (timing w) ⌝ }
 {
-    (w.vspw() + 1) + (w.vbpd() + 1) + height(w) + (w.vfpd() + 1)
+    blank_lines(w) + height(w)
 }
 
 // Clocks in a frame.

@@ -1,8 +1,7 @@
--- `panel::frame::millihertz` meets its contract. Assumes nothing.
+-- `panel::frame::millihertz` meets its contract: a frame has ticks to divide by. Assumes nothing.
 use native.Mathlib.Omega.{arith}
 use borrow.Author.Needs.{needs}
 use Rattle.panel.proofs.Bounds.{frame-ticks-ge}
-use Rattle.panel.specs.Counts.{frameRate}
 use Rattle.panel.proofs.frame.millihertz.Statement.{statement}
 use Rattle.panel.proofs.frame.millihertz.Tie as tie
 
@@ -10,10 +9,7 @@ div-result : tie.Need-div-result
 div-result c = omega (arith, frame-ticks-ge (c .before .args .w))
 
 returns : tie.Need-returns
-unfolding frameRate
 returns c = rw (c .frame-ticks .ensures)
 
 pub millihertz-spec : {M : Type 1} → statement M
-millihertz-spec =
-    tie.close
-    (tie.spec (λ c. search needs) (λ c κs. tt) div-result returns)
+millihertz-spec = tie.close (tie.spec (λ c. search needs) (λ c κs. tt) div-result returns)

@@ -7,26 +7,7 @@ use Rattle.panel.proofs.timing.frame_lines.Tie as tie
 
 returns : tie.Need-returns
 unfolding frameLines
-returns c =
-    rw (
-      c .before .before .before .vspw .ensures,
-      c .before .before .vbpd .ensures,
-      c .before .height .ensures,
-      c .vfpd .ensures,
-    )
+returns c = omega arith
 
 pub frame-lines-spec : {M : Type 1} → statement M
-frame-lines-spec =
-    tie.close
-    (tie.spec
-    (λ c κs. tt)
-    (λ c. search needs)
-    (λ c κs. tt)
-    (λ c. search needs)
-    (λ c. search needs)
-    (λ c κs. tt)
-    (λ c. search needs)
-    (λ c κs. tt)
-    (λ c. search needs)
-    (λ c. search needs)
-    returns)
+frame-lines-spec = tie.close (tie.spec (λ c κs. tt) (λ c κs. tt) (λ c. search needs) returns)

@@ -7,21 +7,7 @@ use Rattle.panel.proofs.timing.line_clocks.Tie as tie
 
 returns : tie.Need-returns
 unfolding lineClocks
-returns c =
-    rw (c .before .before .before .hspw .ensures, c .before .before .hbpd .ensures, c .before .width .ensures, c .hfpd .ensures)
+returns c = omega arith
 
 pub line-clocks-spec : {M : Type 1} → statement M
-line-clocks-spec =
-    tie.close
-    (tie.spec
-    (λ c κs. tt)
-    (λ c. search needs)
-    (λ c κs. tt)
-    (λ c. search needs)
-    (λ c. search needs)
-    (λ c κs. tt)
-    (λ c. search needs)
-    (λ c κs. tt)
-    (λ c. search needs)
-    (λ c. search needs)
-    returns)
+line-clocks-spec = tie.close (tie.spec (λ c κs. tt) (λ c κs. tt) (λ c. search needs) returns)
