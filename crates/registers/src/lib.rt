@@ -2,7 +2,7 @@
 ghost use mathlib.Core.Path.{_≡_};
 ghost use Rattle.registers.specs.Loading.{loaded, load};
 
-pub mod fields;
+mod bits;
 
 // The words in the paper's order.
 pub struct Words {

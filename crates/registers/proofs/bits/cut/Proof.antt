@@ -1,11 +1,11 @@
--- `registers::fields::cut` meets its contract: a shift and a mask are a quotient and a remainder. Assumes nothing.
+-- `registers::bits::cut` meets its contract: a shift and a mask are a quotient and a remainder. Assumes nothing.
 use borrow.Author.Needs.{needs}
 use native.Mathlib.Omega.{arith}
 use lib.Pow.{pow-pos}
 use Prim.Native.Nat.{_+_, _-_}
 use Rattle.laws.specs.Shifts.{one-shifted, shift-and-mask}
-use Rattle.registers.proofs.fields.cut.Statement.{statement}
-use Rattle.registers.proofs.fields.cut.Tie as tie
+use Rattle.registers.proofs.bits.cut.Statement.{statement}
+use Rattle.registers.proofs.bits.cut.Tie as tie
 
 shr-result : tie.Need-shr-result
 shr-result c = search needs
