@@ -1,6 +1,6 @@
 -- A word's layout (document 01, "The nine words"): a list of parts from bit 31 down, each free, read-only or reserved.
 -- Fields, widths, reserved bits and packing follow from the list alone; RoundTrip has their laws. Assumes nothing.
-use mathlib.Core.Bool.{Bool, true, false, _&&_, _||_}
+use mathlib.Core.Bool.{Bool, false, _&&_, _||_}
 use mathlib.Core.List.{List, [], _∷_}
 use Prim.Native.Nat.{ℕ, suc, _+_, _-_, _*_, _/_, _%_, _^_, _<_}
 use lib.Dec.{ltb, leb, eqb}

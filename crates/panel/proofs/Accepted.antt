@@ -1,7 +1,7 @@
 -- What acceptance by 1 to 7 gives (document 01, "Numbers of refusal"): the facts that the floors above build on, each once.
 -- Assumes nothing.
 use mathlib.Core.Bool.{Bool, true, false, not, _&&_, _||_, true≢false}
-use mathlib.Core.Path.{_≡_, refl, sym, ap, _∙_}
+use mathlib.Core.Path.{_≡_, sym, ap, _∙_}
 use Prim.Native.Nat.{ℕ, _+_, _-_, _*_, _/_, _%_, _^_, _<_, _≤_}
 use native.Mathlib.Nat.{mul-le-mul-right, mul-mod-left, mul-assoc, mul-comm, eq-of-mul-eq-mul-right}
 use native.Mathlib.Omega.{arith}
@@ -70,9 +70,9 @@ row-sizes w e =
     e₁ = or-false-left (differs || base₁) row₁ e₂
 
 -- words that 1 to 7 accept
-pub accepted : (w : Words) → judge w ≡ 0 → Accepted w
+pub accepted-words : (w : Words) → judge w ≡ 0 → Accepted w
 unfolding judge notTft noSuchMode endDiffers pastBank
-accepted w e =
+accepted-words w e =
     record {
       clear = none .0;
       tft = same (pnrmode w) 3 (none .1 .0);

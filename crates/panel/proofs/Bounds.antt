@@ -1,9 +1,9 @@
 -- Bounds of every size that the fields can give, whatever the words (document 01, "The nine words"; demand 1: nothing
 -- overflows). Assumes nothing.
-use Prim.Native.Nat.{ℕ, _+_, _*_, _≤_, _<_, _^_}
+use Prim.Native.Nat.{ℕ, _+_, _*_, _≤_, _^_}
 use native.Mathlib.Omega.{arith}
 use Rattle.laws.specs.Products.{product-le}
-use Rattle.registers.specs.Fields.{clkval, pagewidth, lcdbaseu}
+use Rattle.registers.specs.Fields.{clkval}
 use Rattle.registers.specs.declared.Words.{Words}
 use Rattle.panel.specs.Counts.{frameTicks}
 use Rattle.panel.specs.Geometry.{width, height, pitch, rowOffset}

@@ -2,7 +2,7 @@
 -- with the extremes of ticks and rate, and the rate that a rounded pixel clock would miss. Assumes nothing.
 use mathlib.Core.Bool.{true, false}
 use mathlib.Core.List.{List, [], _∷_}
-use mathlib.Core.Path.{_≡_, refl, sym, ap, ap₂, _∙_}
+use mathlib.Core.Path.{_≡_, refl, ap, ap₂, _∙_}
 use Prim.Native.Nat.{ℕ, _*_}
 use native.Mathlib.Omega.{arith}
 use borrow.Author.Tests.{ne-eqb}
@@ -15,7 +15,7 @@ use Rattle.panel.specs.Counts.{counts, countsOf, rate, rateOf, frameTick
 use Rattle.panel.specs.Geometry.{width, storedBits, outsideModes, rowOffset}
 use Rattle.panel.specs.Refusals.{notTft, noSuchMode, swapsIllegal, rowSizeWrong, endDiffers, pastBank, judge, wordCases}
 use Rattle.panel.specs.Timing.{lineClocks, frameLines, frameClocks}
-use Rattle.panel.proofs.Accepted as Accepted
+use Rattle.panel.proofs.Accepted.{accepted-words}
 
 -- ---- counts and rates
 
@@ -62,7 +62,7 @@ examples-hold = (refl, refl, (refl, refl, (refl, refl, (refl, refl, (refl, refl,
 -- width 1023 needs PAGEWIDTH 2046
 pub width-1023 : (w : Words) → judge w ≡ 0 → bppmode w ≡ 13 → width w ≡ 1023 → pagewidth w ≡ 2046
 unfolding storedBits outsideModes
-width-1023 w e m v = omega (arith, Accepted.accepted w e .row-bits, ap₂ _*_ v (ap storedBits m))
+width-1023 w e m v = omega (arith, accepted-words w e .row-bits, ap₂ _*_ v (ap storedBits m))
 
 -- no PAGEWIDTH fits width 1024
 never-fits : (w : Words) → bppmode w ≡ 13 → width w ≡ 1024 → rowSizeWrong w ≡ true

@@ -1,13 +1,13 @@
 -- The panel's size, the stored bits of a pixel and where a row starts (document 01, "The nine words" and "Where a pixel lies").
 -- Assumes nothing.
 use mathlib.Core.Bool.{Bool, not, cond, _&&_}
-use mathlib.Core.List.{List, [], _∷_}
+use mathlib.Core.List.{[], _∷_}
 use Prim.Native.Nat.{ℕ, _+_, _-_, _*_}
 use lib.Dec.{leb}
 use lib.ListN.{getD}
 use Rattle.laws.specs.Answers.{Answer, accepted, refused, judged}
 use Rattle.laws.specs.Cases.{_when_, lowest}
-use Rattle.registers.specs.Fields.{hozval, lineval, bppmode, lcdbaseu, pagewidth, offsize}
+use Rattle.registers.specs.Fields.{hozval, lineval, lcdbaseu, pagewidth, offsize}
 use Rattle.registers.specs.declared.Words.{Words}
 use Rattle.panel.specs.declared.geometry.Depth.{Depth}
 use Rattle.panel.specs.declared.geometry.Depth.the-variants.{Stored, Refused}

@@ -7,7 +7,7 @@ use lib.Dec.{eqb, ltb}
 use Rattle.laws.specs.Cases.{Case, _when_, lowest}
 use Rattle.registers.specs.Fields.{pnrmode, bppmode, bswp, hwswp, lcdbaseu, lcdbasel, pagewidth, offsize, reservedBit}
 use Rattle.registers.specs.declared.Words.{Words}
-use Rattle.panel.specs.Geometry.{width, height, storedBits, outsideModes, pitch, rowOffset}
+use Rattle.panel.specs.Geometry.{width, height, storedBits, outsideModes, rowOffset}
 
 -- 2: PNRMODE is not 3
 unfoldable pub notTft : Words → Bool

@@ -1,6 +1,6 @@
 -- The laws of packed words: values packed and read, a word read and packed, each by one induction over the layout (document 01,
 -- "The nine words"; demand 2). Assumes nothing.
-use mathlib.Core.Bool.{false, _&&_, _||_}
+use mathlib.Core.Bool.{false, _&&_}
 use mathlib.Core.List.{List, [], _∷_}
 use mathlib.Core.Path.{_≡_, refl, sym, ap, ap₂, _∙_}
 use Prim.Native.Nat.{ℕ, suc, _+_, _-_, _*_, _/_, _%_, _^_, _<_, _≤_}

@@ -1,6 +1,5 @@
 -- `panel::geometry::stored_bits` meets its contract: a key is a row of the mode table, and the two ranges lie outside it.
 -- Assumes nothing.
-use Prim.Native.Nat.{_<_}
 use native.Mathlib.Omega.{arith}
 use Rattle.laws.specs.Answers.{judged}
 use Rattle.laws.specs.Cases.{lowest, lower}

@@ -1,10 +1,5 @@
 -- `panel::refusals::end_differs` meets its contract. Assumes nothing.
-use mathlib.Core.Bool.{not}
-use mathlib.Core.Path.{ap, ap₂, _∙_}
-use Prim.Native.Nat.{ℕ, _%_, _^_}
 use borrow.Author.Needs.{needs}
-use lib.Dec.{eqb}
-use Rattle.panel.specs.Geometry.{rowOffset}
 use Rattle.panel.specs.Refusals.{endDiffers}
 use Rattle.panel.proofs.refusals.end_differs.Statement.{statement}
 use Rattle.panel.proofs.refusals.end_differs.Tie as tie
