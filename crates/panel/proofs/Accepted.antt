@@ -1,18 +1,19 @@
 -- What acceptance by 1 to 7 gives (document 01, "Numbers of refusal"): the facts that the floors above build on, each once.
 -- Assumes nothing.
-use mathlib.Core.Bool.{Bool, true, false, not, _&&_, _||_, true≢false}
+use mathlib.Core.Bool.{Bool, true, false, not, _&&_, _||_, true≢false, false≢true}
 use mathlib.Core.Path.{_≡_, sym, ap, _∙_}
 use Prim.Native.Nat.{ℕ, _+_, _-_, _*_, _/_, _%_, _^_, _<_, _≤_}
+use native.Mathlib.Decide.{decLe}
 use native.Mathlib.Nat.{mul-le-mul-right, mul-mod-left, mul-assoc, mul-comm, eq-of-mul-eq-mul-right}
 use native.Mathlib.Omega.{arith}
-use borrow.Author.Tests.{eqb-true, eqb-false, ltb-false, not-false, eq-eqb}
-use lib.Dec.{eqb, ltb}
+use borrow.Author.Tests.{eqb-true, eqb-false, ltb-false, not-false, eq-eqb, ne-eqb}
+use lib.Dec.{eqb}
 use Rattle.laws.specs.Booleans.{or-false-left, or-false-right}
 use Rattle.laws.specs.Cases.{NoneHolds, lowest-zero-none-holds}
 use Rattle.registers.specs.Fields.{pnrmode, bppmode, bswp, hwswp, lcdbaseu, lcdbasel, pagewidth, offsize, reservedBit}
 use Rattle.registers.specs.declared.Words.{Words}
 use Rattle.panel.specs.Geometry.{width, height, storedBits, outsideModes, pitch, rowOffset}
-use Rattle.panel.specs.Refusals.{notTft, noSuchMode, swapsIllegal, rowSizeWrong, endDiffers, pastBank, wordCases, judge}
+use Rattle.panel.specs.Refusals.{upToByte, notTft, noSuchMode, swapsIllegal, rowSizeWrong, endDiffers, pastBank, wordCases, judge}
 use Rattle.panel.proofs.Modes.{pixels-fill-word, stored-bits-pos}
 
 pub record Accepted (w : Words) : Type 0 where
@@ -111,6 +112,22 @@ second-false : (a b : Bool) → a && b ≡ false → a ≡ true → b ≡ false
 second-false true b e t = e
 second-false false b e t = absurd (true≢false (sym t))
 
+up-to-byte-le : (n : ℕ) → upToByte n ≡ true → n ≤ 8
+up-to-byte-le n t = go (decLe n 8)
+  where
+    go : Dec (n ≤ 8) → n ≤ 8
+    go (yes h) = h
+    go (no h) =
+        absurd
+        (false≢true
+        (rw (
+          ne-eqb n 1 (λ e. h (omega arith)),
+          ne-eqb n 2 (λ e. h (omega arith)),
+          ne-eqb n 4 (λ e. h (omega arith)),
+          ne-eqb n 8 (λ e. h (omega arith)),
+        )
+        at t))
+
 -- ---- what follows
 
 module _ (w : Words) (a : Accepted w) where
@@ -137,7 +154,7 @@ module _ (w : Words) (a : Accepted w) where
       omega (arith, a .base-even, even-product r (pitch w) (omega (arith, a .row-even, a .gap-even)))
 
   bytes : Bool
-  bytes = eqb (bswp w) 1 && ltb 8 (storedBits (bppmode w))
+  bytes = eqb (bswp w) 1 && not (upToByte (storedBits (bppmode w)))
 
   halves : Bool
   halves = eqb (hwswp w) 1 && not (eqb (storedBits (bppmode w)) 16)
@@ -150,9 +167,10 @@ module _ (w : Words) (a : Accepted w) where
   pub bswp-legal : bswp w ≡ 1 → storedBits (bppmode w) ≤ 8
   unfolding bytes
   bswp-legal e =
-      ltb-false 8 (storedBits (bppmode w))
-      (second-false (eqb (bswp w) 1) (ltb 8 (storedBits (bppmode w)))
-      (or-false-left bytes halves each-swap) (eq-eqb (bswp w) 1 e))
+      up-to-byte-le (storedBits (bppmode w))
+      (not-false (upToByte (storedBits (bppmode w)))
+      (second-false (eqb (bswp w) 1) (not (upToByte (storedBits (bppmode w))))
+      (or-false-left bytes halves each-swap) (eq-eqb (bswp w) 1 e)))
 
   -- HWSWP only where it has 16
   pub hwswp-legal : hwswp w ≡ 1 → storedBits (bppmode w) ≡ 16

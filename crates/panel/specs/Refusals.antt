@@ -17,11 +17,14 @@ notTft w = not (eqb (pnrmode w) 3)
 unfoldable pub noSuchMode : Words → Bool
 noSuchMode w = outsideModes (bppmode w)
 
+abbrev pub upToByte : ℕ → Bool
+upToByte bits = eqb bits 1 || eqb bits 2 || eqb bits 4 || eqb bits 8
+
 -- 4: the swap bits aren't legal for the mode
 -- "Legal (house): BSWP with 1, 2, 4, 8 bits only; HWSWP with 16 only; never both."
 unfoldable pub swapsIllegal : Words → Bool
 swapsIllegal w =
-    (eqb (bswp w) 1 && ltb 8 (storedBits (bppmode w)))
+    (eqb (bswp w) 1 && not (upToByte (storedBits (bppmode w))))
     || (eqb (hwswp w) 1 && not (eqb (storedBits (bppmode w)) 16))
     || (eqb (bswp w) 1 && eqb (hwswp w) 1)
 

@@ -41,7 +41,8 @@ fn swaps_illegal(w: Words) -> bool
     let bits = bits_of(w);
     let bswp = w.bswp();
     let hwswp = w.hwswp();
-    ((bswp == 1) & (8 < bits)) | ((hwswp == 1) & (bits != 16)) | ((bswp == 1) & (hwswp == 1))
+    let up_to_byte = (bits == 1) | (bits == 2) | (bits == 4) | (bits == 8);
+    ((bswp == 1) & !up_to_byte) | ((hwswp == 1) & (bits != 16)) | ((bswp == 1) & (hwswp == 1))
 }
 
 fn row_size_wrong(w: Words) -> bool
