@@ -5,7 +5,8 @@ ghost use Rattle.registers.specs.Fields.{linecnt, clkval, mmode, pnrmode
 ghost use Rattle.registers.specs.Fields.{vbpd, lineval, vfpd, vspw};
 ghost use Rattle.registers.specs.Fields.{hbpd, hozval, hfpd};
 ghost use Rattle.registers.specs.Fields.{mval, hspw};
-ghost use Rattle.registers.specs.Fields.{vstatus, hstatus, bpp24bl, frm565, invvclk, invvline, invvframe, invvd, invvden, invpwren, invlend, pwren, enlend, bswp, hwswp};
+ghost use Rattle.registers.specs.Fields.{vstatus, hstatus, bpp24bl, frm565, invvclk, invvline, invvframe, invvd};
+ghost use Rattle.registers.specs.Fields.{invvden, invpwren, invlend, pwren, enlend, bswp, hwswp};
 ghost use Rattle.registers.specs.Fields.{lcdbank, lcdbaseu};
 ghost use Rattle.registers.specs.Fields.{lcdbasel};
 ghost use Rattle.registers.specs.Fields.{offsize, pagewidth};
@@ -22,6 +23,8 @@ fn cut(word: u32, high: u32, low: u32) -> u32
 }
 
 impl Words {
+    // ---- LCDCON1
+
     pub fn linecnt(self) -> u32
         ensures { λ r. ⌜ r ≡ linecnt self ⌝ }
     {
@@ -58,6 +61,8 @@ impl Words {
         cut(self.lcdcon1, 0, 0)
     }
 
+    // ---- LCDCON2
+
     pub fn vbpd(self) -> u32
         ensures { λ r. ⌜ r ≡ vbpd self ⌝ }
     {
@@ -82,6 +87,8 @@ impl Words {
         cut(self.lcdcon2, 5, 0)
     }
 
+    // ---- LCDCON3
+
     pub fn hbpd(self) -> u32
         ensures { λ r. ⌜ r ≡ hbpd self ⌝ }
     {
@@ -100,6 +107,8 @@ impl Words {
         cut(self.lcdcon3, 7, 0)
     }
 
+    // ---- LCDCON4
+
     pub fn mval(self) -> u32
         ensures { λ r. ⌜ r ≡ mval self ⌝ }
     {
@@ -111,6 +120,8 @@ impl Words {
     {
         cut(self.lcdcon4, 7, 0)
     }
+
+    // ---- LCDCON5
 
     pub fn vstatus(self) -> u32
         ensures { λ r. ⌜ r ≡ vstatus self ⌝ }
@@ -202,6 +213,8 @@ impl Words {
         cut(self.lcdcon5, 0, 0)
     }
 
+    // ---- LCDSADDR1
+
     pub fn lcdbank(self) -> u32
         ensures { λ r. ⌜ r ≡ lcdbank self ⌝ }
     {
@@ -214,11 +227,15 @@ impl Words {
         cut(self.lcdsaddr1, 20, 0)
     }
 
+    // ---- LCDSADDR2
+
     pub fn lcdbasel(self) -> u32
         ensures { λ r. ⌜ r ≡ lcdbasel self ⌝ }
     {
         cut(self.lcdsaddr2, 20, 0)
     }
+
+    // ---- LCDSADDR3
 
     pub fn offsize(self) -> u32
         ensures { λ r. ⌜ r ≡ offsize self ⌝ }
@@ -232,6 +249,8 @@ impl Words {
         cut(self.lcdsaddr3, 10, 0)
     }
 
+    // ---- TPAL
+
     pub fn tpalen(self) -> u32
         ensures { λ r. ⌜ r ≡ tpalen self ⌝ }
     {
@@ -243,6 +262,8 @@ impl Words {
     {
         cut(self.tpal, 23, 0)
     }
+
+    // ---- all nine
 
     // 1: a reserved bit is set.
     pub fn reserved_bit(self) -> bool
