@@ -1,15 +1,14 @@
 -- The two round trips (demand 2): "Fields written and read back are the same, and so are accepted words, read-only bits apart."
 -- Both follow from the layouts, word by word, by one law each. Assumes nothing but, of the words, that each has 32 bits.
 use mathlib.Core.Bool.{false}
-use mathlib.Core.List.{List, [], _∷_}
+use mathlib.Core.List.{List}
 use mathlib.Core.Path.{_≡_, refl, sym, ap, _∙_}
 use Prim.Native.Nat.{ℕ, _-_, _^_, _<_}
 use lib.ListN.{getD}
-use Rattle.laws.specs.Answers.{accepted, judged, judged-accepted}
+use Rattle.laws.specs.Answers.{accepted, one-accepts, one-accepted}
 use Rattle.laws.specs.BitFields.{readOnlyBits}
 use Rattle.laws.specs.BitFields.RoundTrip.{packed-and-read, packed-is-clear, values-narrow, read-and-packed}
 use Rattle.laws.specs.Booleans.{AllFalse, all-false, none-true}
-use Rattle.laws.specs.Cases.{_when_, lowest, lowest-zero-none-holds}
 use Rattle.registers.specs.Fields.{reservedBit, reservedWords}
 use Rattle.registers.specs.Layouts.{LCDCON1, LCDCON2, LCDCON3, LCDCON4, LCDCON5, LCDSADDR1, LCDSADDR2, LCDSADDR3, TPAL}
 use Rattle.registers.specs.declared.Words.{Words}
@@ -158,14 +157,15 @@ module _ (f : Fields) (fit : FieldsFit f) where
 
 -- fields that the writer takes are what reading its words gives
 pub fields-written-and-read : (f : Fields) (w : Words) → write f ≡ accepted w → read w ≡ accepted f
-unfolding write read judged lowest
-fields-written-and-read f w e = ap read (sym (taken .1)) ∙ rw (clear f fit) (ap accepted (same-fields f fit))
+unfolding write read
+fields-written-and-read f w e =
+    ap read (sym (taken .1)) ∙ sym (one-accepts 1 _ _ _ (clear f fit) (sym (same-fields f fit)))
   where
-    taken : (lowest (12 when fieldTooWide f ∷ []) ≡ 0) × (wordsOf f ≡ w)
-    taken = judged-accepted (lowest (12 when fieldTooWide f ∷ [])) (wordsOf f) w e
+    taken : (fieldTooWide f ≡ false) × (wordsOf f ≡ w)
+    taken = one-accepted 12 (fieldTooWide f) (wordsOf f) w tt e
 
     fit : FieldsFit f
-    fit = fields-fit f (lowest-zero-none-holds 0 (12 when fieldTooWide f ∷ []) tt (taken .0) .0)
+    fit = fields-fit f (taken .0)
 
 -- ---- words read and written back
 
@@ -222,12 +222,9 @@ narrow w = none-true (wideWords (fieldsOf w)) (narrow-words w)
 -- words that reading takes are what the writer makes of their fields, but for their read-only bits
 pub words-read-and-written : (w : Words) (f : Fields) → Each32 w → read w ≡ accepted f
     → write f ≡ accepted (withoutReadOnly w)
-unfolding write read judged lowest
+unfolding write read
 words-read-and-written w f sizes e =
-    ap write (sym (taken .1)) ∙ rw (narrow w) (ap accepted (same-words w sizes clear-bits))
+    ap write (sym (taken .1)) ∙ sym (one-accepts 12 _ _ _ (narrow w) (sym (same-words w sizes (taken .0))))
   where
-    taken : (lowest (1 when reservedBit w ∷ []) ≡ 0) × (fieldsOf w ≡ f)
-    taken = judged-accepted (lowest (1 when reservedBit w ∷ [])) (fieldsOf w) f e
-
-    clear-bits : reservedBit w ≡ false
-    clear-bits = lowest-zero-none-holds 0 (1 when reservedBit w ∷ []) tt (taken .0) .0
+    taken : (reservedBit w ≡ false) × (fieldsOf w ≡ f)
+    taken = one-accepted 1 (reservedBit w) (fieldsOf w) f tt e

@@ -1,8 +1,13 @@
 -- What a call of the model gives (document 01, "Numbers of refusal"): an answer, or the number of a refusal and nothing else.
 -- The enum of each call is read as one of these, so that one set of laws serves them all. Assumes nothing.
+use mathlib.Core.Bool.{Bool, true, false}
+use mathlib.Core.List.{[], _∷_}
 use mathlib.Core.Path.{_≡_, refl, sym, ap, _∙_}
 use Prim.Native.Nat.{ℕ, zero, suc, _<_}
 use native.Mathlib.Omega.{arith}
+use lib.Dec.{T, ltb}
+use Rattle.laws.specs.Booleans.{and-both}
+use Rattle.laws.specs.Cases.{_when_, lowest, lower, ascending, lowest-zero-none-holds}
 
 pub data Answer (A : Type 0) : Type 0 where
   accepted : A → Answer A
@@ -30,6 +35,46 @@ unfoldable pub andThen : {A B : Type 0} → Answer A → (A → Answer B) → An
 andThen (accepted a) f = f a
 andThen (refused n) f = refused n
 
+-- a call that answers with something of another's answer; a refusal is passed on
+unfoldable pub mapped : {A B : Type 0} → (A → B) → Answer A → Answer B
+mapped f (accepted a) = accepted (f a)
+mapped f (refused n) = refused n
+
+-- ---- a call with one condition
+
+module _ {A : Type 0} (n : ℕ) (b : Bool) (a : A) where
+  pub one-refuses : 0 < n → b ≡ true → refused n ≡ judged (lowest (n when b ∷ [])) a
+  unfolding judged lowest lower
+  one-refuses h t = rw t (go n h)
+    where
+      go : (m : ℕ) → 0 < m → refused m ≡ judged (lower m 0) a
+      go zero z = absurd (omega arith)
+      go (suc m) z = refl
+
+  pub one-accepts : (v : A) → b ≡ false → v ≡ a → accepted v ≡ judged (lowest (n when b ∷ [])) a
+  unfolding judged lowest
+  one-accepts v f e = rw f (ap accepted e)
+
+  pub one-accepted : (v : A) → T (ltb 0 n) → judged (lowest (n when b ∷ [])) a ≡ accepted v → (b ≡ false) × (a ≡ v)
+  one-accepted v h e = (lowest-zero-none-holds 0 (n when b ∷ []) rises (taken .0) .0, taken .1)
+    where
+      taken : (lowest (n when b ∷ []) ≡ 0) × (a ≡ v)
+      taken = judged-accepted (lowest (n when b ∷ [])) a v e
+
+      rises : T (ascending 0 (n when b ∷ []))
+      rises = and-both (ltb 0 n) true h tt
+
+  pub one-refused : (m : ℕ) → judged (lowest (n when b ∷ [])) a ≡ refused m → b ≡ true
+  unfolding lowest
+  one-refused m e = go b refl
+    where
+      some : 0 < lowest (n when b ∷ [])
+      some = judged-refused (lowest (n when b ∷ [])) a m e .1
+
+      go : (t : Bool) → b ≡ t → b ≡ true
+      go true p = p
+      go false p = absurd (omega (arith, rw p at some))
+
 -- ---- how a program gives such an answer, r being the number that it found
 
 pub gives-refusal : {A : Type 0} (r n : ℕ) (a : A) → r ≡ n → (r ≡ 0 → ⊥) → refused r ≡ judged n a
@@ -49,3 +94,12 @@ pub goes-on : {A B : Type 0} (x : Answer A) (f : A → Answer B) (a : A) (b : An
     → b ≡ andThen x f
 unfolding andThen
 goes-on x f a b e v = v ∙ ap (λ (y : Answer _). andThen y f) e
+
+-- what stands in an answer that was accepted, and the number of one that was refused, go through `mapped`
+pub maps : {A B : Type 0} (f : A → B) (x : Answer A) (a : A) (b : B) → accepted a ≡ x → b ≡ f a → accepted b ≡ mapped f x
+unfolding mapped
+maps f x a b e v = ap accepted v ∙ ap (mapped f) e
+
+pub maps-refusal : {A B : Type 0} (f : A → B) (x : Answer A) (n : ℕ) → refused n ≡ x → refused n ≡ mapped f x
+unfolding mapped
+maps-refusal f x n e = ap (mapped f) e

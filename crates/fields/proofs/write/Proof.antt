@@ -1,23 +1,23 @@
 -- `fields::write` meets its contract. Assumes nothing.
-use mathlib.Core.Path.{sym, _∙_, ap}
-use Rattle.laws.specs.Answers.{judged, accepted}
-use Rattle.laws.specs.Cases.{lowest, lower}
+use mathlib.Core.Path.{sym, _∙_}
+use lib.Dec.{lit<}
+use Rattle.laws.specs.Answers.{one-refuses, one-accepts}
 use Rattle.fields.specs.Fitting.{fields-fit}
 use Rattle.fields.specs.Writing.{write}
 use Rattle.fields.proofs.write.Statement.{statement}
 use Rattle.fields.proofs.write.Tie as tie
 
 returns : tie.Need-returns
-unfolding write judged lowest lower
-returns c = rw (sym (c .before .too-wide .ensures) ∙ c .if1 .taken)
+unfolding write
+returns c = one-refuses 12 _ _ (lit< tt) (sym (c .before .too-wide .ensures) ∙ c .if1 .taken)
 
 words-of-requires : tie.Need-words-of-requires
 words-of-requires c κs = fields-fit (c .before .before .args .f) (sym (c .before .too-wide .ensures) ∙ c .if1 .left)
 
 returns-2 : tie.Need-returns-2
-unfolding write judged lowest lower
+unfolding write
 returns-2 c =
-    rw (sym (c .before .before .too-wide .ensures) ∙ c .before .if1 .left) (ap accepted (c .words-of .ensures))
+    one-accepts 12 _ _ _ (sym (c .before .before .too-wide .ensures) ∙ c .before .if1 .left) (c .words-of .ensures)
 
 pub write-spec : {M : Type 1} → statement M
 write-spec = tie.close (tie.spec (λ c κs. tt) returns words-of-requires returns-2)

@@ -2,5 +2,15 @@
 use Rattle.fields.proofs.parts.lcdcon1_of.Statement.{statement}
 use Rattle.fields.proofs.parts.lcdcon1_of.Tie as tie
 
+returns : tie.Need-returns
+returns c =
+    rw (
+      c .before .before .before .before .clkval .ensures,
+      c .before .before .before .mmode .ensures,
+      c .before .before .pnrmode .ensures,
+      c .before .bppmode .ensures,
+      c .envid .ensures,
+    )
+
 pub lcdcon1-of-spec : {M : Type 1} → statement M
-lcdcon1-of-spec = tie.close (tie.spec (λ c κs. tt) (λ c κs. tt) (λ c κs. tt) (λ c κs. tt) (λ c κs. tt) (λ c. cc))
+lcdcon1-of-spec = tie.close (tie.spec (λ c κs. tt) (λ c κs. tt) (λ c κs. tt) (λ c κs. tt) (λ c κs. tt) returns)

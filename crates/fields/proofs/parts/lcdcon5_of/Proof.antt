@@ -2,6 +2,24 @@
 use Rattle.fields.proofs.parts.lcdcon5_of.Statement.{statement}
 use Rattle.fields.proofs.parts.lcdcon5_of.Tie as tie
 
+returns : tie.Need-returns
+returns c =
+    rw (
+      c .before .before .before .before .before .before .before .before .before .before .before .before .bpp24bl .ensures,
+      c .before .before .before .before .before .before .before .before .before .before .before .frm565 .ensures,
+      c .before .before .before .before .before .before .before .before .before .before .invvclk .ensures,
+      c .before .before .before .before .before .before .before .before .before .invvline .ensures,
+      c .before .before .before .before .before .before .before .before .invvframe .ensures,
+      c .before .before .before .before .before .before .before .invvd .ensures,
+      c .before .before .before .before .before .before .invvden .ensures,
+      c .before .before .before .before .before .invpwren .ensures,
+      c .before .before .before .before .invlend .ensures,
+      c .before .before .before .pwren .ensures,
+      c .before .before .enlend .ensures,
+      c .before .bswp .ensures,
+      c .hwswp .ensures,
+    )
+
 pub lcdcon5-of-spec : {M : Type 1} → statement M
 lcdcon5-of-spec =
     tie.close
@@ -19,4 +37,4 @@ lcdcon5-of-spec =
     (λ c κs. tt)
     (λ c κs. tt)
     (λ c κs. tt)
-    (λ c. cc))
+    returns)

@@ -2,5 +2,8 @@
 use Rattle.fields.proofs.parts.lcdsaddr2_of.Statement.{statement}
 use Rattle.fields.proofs.parts.lcdsaddr2_of.Tie as tie
 
+returns : tie.Need-returns
+returns c = rw (c .lcdbasel .ensures)
+
 pub lcdsaddr2-of-spec : {M : Type 1} → statement M
-lcdsaddr2-of-spec = tie.close (tie.spec (λ c κs. tt) (λ c. cc))
+lcdsaddr2-of-spec = tie.close (tie.spec (λ c κs. tt) returns)

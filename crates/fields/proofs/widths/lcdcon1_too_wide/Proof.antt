@@ -3,6 +3,16 @@ use borrow.Author.Needs.{needs}
 use Rattle.fields.proofs.widths.lcdcon1_too_wide.Statement.{statement}
 use Rattle.fields.proofs.widths.lcdcon1_too_wide.Tie as tie
 
+returns : tie.Need-returns
+returns c =
+    rw (
+      c .wider5 .ensures,
+      c .before .wider4 .ensures,
+      c .before .before .wider3 .ensures,
+      c .before .before .before .wider2 .ensures,
+      c .before .before .before .before .wider .ensures,
+    )
+
 pub lcdcon1-too-wide-spec : {M : Type 1} → statement M
 lcdcon1-too-wide-spec =
     tie.close
@@ -12,4 +22,4 @@ lcdcon1-too-wide-spec =
     (λ c κs. search needs)
     (λ c κs. search needs)
     (λ c κs. search needs)
-    (λ c. cc))
+    returns)

@@ -3,6 +3,15 @@ use borrow.Author.Needs.{needs}
 use Rattle.fields.proofs.widths.lcdcon2_too_wide.Statement.{statement}
 use Rattle.fields.proofs.widths.lcdcon2_too_wide.Tie as tie
 
+returns : tie.Need-returns
+returns c =
+    rw (
+      c .wider4 .ensures,
+      c .before .wider3 .ensures,
+      c .before .before .wider2 .ensures,
+      c .before .before .before .wider .ensures,
+    )
+
 pub lcdcon2-too-wide-spec : {M : Type 1} → statement M
 lcdcon2-too-wide-spec =
     tie.close
@@ -11,4 +20,4 @@ lcdcon2-too-wide-spec =
     (λ c κs. search needs)
     (λ c κs. search needs)
     (λ c κs. search needs)
-    (λ c. cc))
+    returns)

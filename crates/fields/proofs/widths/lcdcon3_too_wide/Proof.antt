@@ -3,5 +3,8 @@ use borrow.Author.Needs.{needs}
 use Rattle.fields.proofs.widths.lcdcon3_too_wide.Statement.{statement}
 use Rattle.fields.proofs.widths.lcdcon3_too_wide.Tie as tie
 
+returns : tie.Need-returns
+returns c = rw (c .wider3 .ensures, c .before .wider2 .ensures, c .before .before .wider .ensures)
+
 pub lcdcon3-too-wide-spec : {M : Type 1} → statement M
-lcdcon3-too-wide-spec = tie.close (tie.spec (λ c κs. search needs) (λ c κs. search needs) (λ c κs. search needs) (λ c. cc))
+lcdcon3-too-wide-spec = tie.close (tie.spec (λ c κs. search needs) (λ c κs. search needs) (λ c κs. search needs) returns)

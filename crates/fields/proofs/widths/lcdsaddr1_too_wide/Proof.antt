@@ -3,5 +3,8 @@ use borrow.Author.Needs.{needs}
 use Rattle.fields.proofs.widths.lcdsaddr1_too_wide.Statement.{statement}
 use Rattle.fields.proofs.widths.lcdsaddr1_too_wide.Tie as tie
 
+returns : tie.Need-returns
+returns c = rw (c .wider2 .ensures, c .before .wider .ensures)
+
 pub lcdsaddr1-too-wide-spec : {M : Type 1} → statement M
-lcdsaddr1-too-wide-spec = tie.close (tie.spec (λ c κs. search needs) (λ c κs. search needs) (λ c. cc))
+lcdsaddr1-too-wide-spec = tie.close (tie.spec (λ c κs. search needs) (λ c κs. search needs) returns)
