@@ -1,19 +1,22 @@
--- Worked examples of document 01 ("The bench", "Both sides of the line"), tried on the definitions: T1's counts, T8 and T11,
--- with the extremes of ticks and rate, and the rate that a rounded pixel clock would miss. Assumes nothing.
-use mathlib.Core.Bool.{true, false}
+-- Worked examples of document 01 ("The bench", "Both sides of the line", "Numbers of refusal"), tried on the definitions: T1's
+-- counts, T8, T11, the extremes of ticks and rate, the rate that a rounded pixel clock would miss, and both sides of each
+-- refusal. Their numbers are worked out by hand from the paper. Assumes nothing.
+use mathlib.Core.Bool.{Bool, true, false, _&&_}
 use mathlib.Core.List.{List, [], _∷_}
 use mathlib.Core.Path.{_≡_, refl, ap, ap₂, _∙_}
 use Prim.Native.Nat.{ℕ, _*_}
 use native.Mathlib.Omega.{arith}
 use borrow.Author.Tests.{ne-eqb}
-use Rattle.laws.specs.Answers.{accepted, judged, andThen}
+use lib.Dec.{T, eqb}
+use Rattle.laws.specs.Answers.{accepted, judged, andThen, mapped}
 use Rattle.laws.specs.Cases.{lowest, lower, first, lowest-of-ascending-is-first}
 use Rattle.registers.specs.Fields.{bppmode, pagewidth, reservedBit}
-use Rattle.registers.specs.Loading.{load, shortOfNine}
+use Rattle.registers.specs.Loading.{load, shortOfNine, inOrder}
 use Rattle.registers.specs.declared.Words.{Words}
-use Rattle.panel.specs.Counts.{counts, countsOf, rate, rateOf, frameTicks}
+use Rattle.panel.specs.Counts.{counts, rate, frameTicks}
 use Rattle.panel.specs.Geometry.{width, storedBits, outsideModes, rowOffset}
-use Rattle.panel.specs.Refusals.{notTft, noSuchMode, swapsIllegal, rowSizeWrong, endDiffers, pastBank, judge, wordCases}
+use Rattle.panel.specs.Refusals.{notTft, noSuchMode, swapsIllegal, rowSizeWrong, endDiffers, pastBank}
+use Rattle.panel.specs.Refusals.{judge, wordCases, accept}
 use Rattle.panel.specs.Timing.{lineClocks, frameLines, frameClocks}
 use Rattle.panel.proofs.Accepted.{accepted-words}
 
@@ -54,8 +57,61 @@ AllHold (x ∷ xs) =
     × AllHold xs
 
 pub examples-hold : AllHold examples
-unfolding counts countsOf rate rateOf andThen load shortOfNine judged judge lowest lower reservedBit notTft noSuchMode outsideModes swapsIllegal storedBits rowSizeWrong endDiffers pastBank rowOffset lineClocks frameLines frameClocks frameTicks
+unfolding counts rate mapped accept andThen load shortOfNine judged judge lowest lower reservedBit notTft noSuchMode outsideModes swapsIllegal storedBits rowSizeWrong endDiffers pastBank rowOffset lineClocks frameLines frameClocks frameTicks
 examples-hold = (refl, refl, (refl, refl, (refl, refl, (refl, refl, (refl, refl, (refl, refl, tt))))))
+
+-- ---- refusals
+
+pub record Verdict : Type 0 where
+  pub words : List ℕ
+  pub number : ℕ
+
+infix 70 _gives_
+abbrev _gives_ : List ℕ → ℕ → Verdict
+words gives n = record { words = words; number = n }
+
+-- each is the 240 by 320 panel at 16 bits (the first), changed where it says
+abbrev pub verdicts : List Verdict
+verdicts =
+    (0x479 ∷ 0x014FC041 ∷ 0x0098EF09 ∷ 0x9 ∷ 0xB09 ∷ 0x18000000 ∷ 0x12C00 ∷ 0xF0 ∷ 0 ∷ []) gives 0
+    -- 1: the lowest reserved bit of LCDCON1, of LCDCON5 and of TPAL; all read-only bits draw nothing
+    ∷ (0x10000479 ∷ 0x014FC041 ∷ 0x0098EF09 ∷ 0x9 ∷ 0xB09 ∷ 0x18000000 ∷ 0x12C00 ∷ 0xF0 ∷ 0 ∷ []) gives 1
+    ∷ (0x479 ∷ 0x014FC041 ∷ 0x0098EF09 ∷ 0x9 ∷ 0x20B09 ∷ 0x18000000 ∷ 0x12C00 ∷ 0xF0 ∷ 0 ∷ []) gives 1
+    ∷ (0x479 ∷ 0x014FC041 ∷ 0x0098EF09 ∷ 0x9 ∷ 0xB09 ∷ 0x18000000 ∷ 0x12C00 ∷ 0xF0 ∷ 0x2000000 ∷ []) gives 1
+    ∷ (0x0FFC0479 ∷ 0x014FC041 ∷ 0x0098EF09 ∷ 0x9 ∷ 0x1EB09 ∷ 0x18000000 ∷ 0x12C00 ∷ 0xF0 ∷ 0 ∷ []) gives 0
+    -- 2: PNRMODE 2, and before 3
+    ∷ (0x459 ∷ 0x014FC041 ∷ 0x0098EF09 ∷ 0x9 ∷ 0xB09 ∷ 0x18000000 ∷ 0x12C00 ∷ 0xF0 ∷ 0 ∷ []) gives 2
+    ∷ (0x44F ∷ 0x014FC041 ∷ 0x0098EF09 ∷ 0x9 ∷ 0xB09 ∷ 0x18000000 ∷ 0x12C00 ∷ 0xF0 ∷ 0 ∷ []) gives 2
+    -- 3: BPPMODE 7 and 14
+    ∷ (0x46F ∷ 0x014FC041 ∷ 0x0098EF09 ∷ 0x9 ∷ 0xB09 ∷ 0x18000000 ∷ 0x12C00 ∷ 0xF0 ∷ 0 ∷ []) gives 3
+    ∷ (0x47D ∷ 0x014FC041 ∷ 0x0098EF09 ∷ 0x9 ∷ 0xB09 ∷ 0x18000000 ∷ 0x12C00 ∷ 0xF0 ∷ 0 ∷ []) gives 3
+    -- 4: BSWP at 16 bits, both at 16, HWSWP at 8 and at 24; BSWP at 8 is legal
+    ∷ (0x479 ∷ 0x014FC041 ∷ 0x0098EF09 ∷ 0x9 ∷ 0xB0A ∷ 0x18000000 ∷ 0x12C00 ∷ 0xF0 ∷ 0 ∷ []) gives 4
+    ∷ (0x479 ∷ 0x014FC041 ∷ 0x0098EF09 ∷ 0x9 ∷ 0xB0B ∷ 0x18000000 ∷ 0x12C00 ∷ 0xF0 ∷ 0 ∷ []) gives 4
+    ∷ (0x477 ∷ 0x014FC041 ∷ 0x0098EF09 ∷ 0x9 ∷ 0xB09 ∷ 0x18000000 ∷ 0x9600 ∷ 0x78 ∷ 0 ∷ []) gives 4
+    ∷ (0x47B ∷ 0x014FC041 ∷ 0x0098EF09 ∷ 0x9 ∷ 0xB09 ∷ 0x18000000 ∷ 0x25800 ∷ 0x1E0 ∷ 0 ∷ []) gives 4
+    ∷ (0x477 ∷ 0x014FC041 ∷ 0x0098EF09 ∷ 0x9 ∷ 0xB0A ∷ 0x18000000 ∷ 0x9600 ∷ 0x78 ∷ 0 ∷ []) gives 0
+    -- 5: another PAGEWIDTH, an odd OFFSIZE, an odd LCDBASEU
+    ∷ (0x479 ∷ 0x014FC041 ∷ 0x0098EF09 ∷ 0x9 ∷ 0xB09 ∷ 0x18000000 ∷ 0x13100 ∷ 0xF2 ∷ 0 ∷ []) gives 5
+    ∷ (0x479 ∷ 0x014FC041 ∷ 0x0098EF09 ∷ 0x9 ∷ 0xB09 ∷ 0x18000000 ∷ 0x12D40 ∷ 0x8F0 ∷ 0 ∷ []) gives 5
+    ∷ (0x479 ∷ 0x014FC041 ∷ 0x0098EF09 ∷ 0x9 ∷ 0xB09 ∷ 0x18000001 ∷ 0x12C01 ∷ 0xF0 ∷ 0 ∷ []) gives 5
+    -- 6: LCDBASEL one word further
+    ∷ (0x479 ∷ 0x014FC041 ∷ 0x0098EF09 ∷ 0x9 ∷ 0xB09 ∷ 0x18000000 ∷ 0x12C02 ∷ 0xF0 ∷ 0 ∷ []) gives 6
+    -- 7: an end of exactly 2^21 is accepted, a word further is not, and there 6 comes first
+    ∷ (0x479 ∷ 0x014FC041 ∷ 0x0098EF09 ∷ 0x9 ∷ 0xB09 ∷ 0x181ED400 ∷ 0 ∷ 0xF0 ∷ 0 ∷ []) gives 0
+    ∷ (0x479 ∷ 0x014FC041 ∷ 0x0098EF09 ∷ 0x9 ∷ 0xB09 ∷ 0x181ED402 ∷ 2 ∷ 0xF0 ∷ 0 ∷ []) gives 7
+    ∷ (0x479 ∷ 0x014FC041 ∷ 0x0098EF09 ∷ 0x9 ∷ 0xB09 ∷ 0x181ED402 ∷ 0 ∷ 0xF0 ∷ 0 ∷ []) gives 6
+    -- a virtual screen of OFFSIZE 16 that ends the bank: the last row's OFFSIZE lies past it
+    ∷ (0x479 ∷ 0x014FC041 ∷ 0x0098EF09 ∷ 0x9 ∷ 0xB09 ∷ 0x181EC010 ∷ 0x10 ∷ 0x80F0 ∷ 0 ∷ []) gives 0
+    ∷ []
+
+abbrev pub agree : List Verdict → Bool
+agree [] = true
+agree (v ∷ vs) = eqb (judge (inOrder (v .words))) (v .number) && agree vs
+
+pub verdicts-agree : T (agree verdicts)
+unfolding judge lowest lower reservedBit notTft noSuchMode outsideModes swapsIllegal storedBits rowSizeWrong endDiffers pastBank rowOffset
+verdicts-agree = tt
 
 -- ---- T11: 24 bits
 

@@ -6,8 +6,7 @@ use Prim.Native.Nat.{ℕ, _-_, _*_, _/_, _<_, _≤_}
 use native.Mathlib.Omega.{arith}
 use borrow.Author.Tests.{lt-leb, le-leb, leb-true, not-false}
 use lib.Dec.{T, leb, ltb, eqb, leb→le, ltb→lt, eqb→eq}
-use Rattle.laws.specs.Answers.{accepted, refused, judged-accepted, judged-refused}
-use Rattle.laws.specs.Cases.{_when_, lowest, lowest-zero-none-holds}
+use Rattle.laws.specs.Answers.{accepted, refused, one-accepted, one-refused}
 use Rattle.laws.specs.Tables.{every, entry-passes}
 use Rattle.panel.specs.Geometry.{outsideModes, storedBits, depthOf}
 
@@ -34,21 +33,13 @@ past n mode l ne = omega arith
 pub accepted-mode : (mode bits : ℕ) → accepted bits ≡ depthOf mode
     → (outsideModes mode ≡ false) × (bits ≡ storedBits mode)
 unfolding depthOf
-accepted-mode mode bits e = (lowest-zero-none-holds 0 (3 when outsideModes mode ∷ []) tt (taken .0) .0, sym (taken .1))
-  where
-    taken : (lowest (3 when outsideModes mode ∷ []) ≡ 0) × (storedBits mode ≡ bits)
-    taken = judged-accepted (lowest (3 when outsideModes mode ∷ [])) (storedBits mode) bits (sym e)
+accepted-mode mode bits e =
+    let taken = one-accepted 3 (outsideModes mode) (storedBits mode) bits tt (sym e) in
+    (taken .0, sym (taken .1))
 
 pub refused-mode : (mode n : ℕ) → refused n ≡ depthOf mode → outsideModes mode ≡ true
-unfolding depthOf lowest
-refused-mode mode n e = go (outsideModes mode) refl
-  where
-    some-case : 0 < lowest (3 when outsideModes mode ∷ [])
-    some-case = judged-refused (lowest (3 when outsideModes mode ∷ [])) (storedBits mode) n (sym e) .1
-
-    go : (b : Bool) → outsideModes mode ≡ b → outsideModes mode ≡ true
-    go true o = o
-    go false o = absurd (omega (arith, rw o at some-case))
+unfolding depthOf
+refused-mode mode n e = one-refused 3 (outsideModes mode) (storedBits mode) n (sym e)
 
 -- ---- inside
 

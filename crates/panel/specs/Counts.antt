@@ -2,11 +2,10 @@
 -- Assumes nothing.
 use mathlib.Core.List.{List}
 use Prim.Native.Nat.{ℕ, _+_, _*_, _/_}
-use Rattle.laws.specs.Answers.{Answer, accepted, refused, judged, andThen}
+use Rattle.laws.specs.Answers.{Answer, accepted, refused, mapped}
 use Rattle.registers.specs.Fields.{clkval}
-use Rattle.registers.specs.Loading.{load}
 use Rattle.registers.specs.declared.Words.{Words}
-use Rattle.panel.specs.Refusals.{judge}
+use Rattle.panel.specs.Refusals.{accept}
 use Rattle.panel.specs.Timing.{timing, frameClocks}
 use Rattle.panel.specs.declared.frame.Counted.{Counted}
 use Rattle.panel.specs.declared.frame.Counted.the-variants.{Frame, Refused as NoFrame}
@@ -31,16 +30,13 @@ frameTicks w = 2 * (clkval w + 1) * frameClocks (timing w)
 abbrev pub frameRate : Words → ℕ → ℕ
 frameRate w hclk = hclk * 1000 / frameTicks w
 
--- a frame's clocks and ticks: "counts and rate are judged by 1 to 7"
-unfoldable pub countsOf : Words → Answer Counts
-countsOf w = judged (judge w) (record { clocks = frameClocks (timing w); ticks = frameTicks w })
+-- a frame's clocks and ticks
+abbrev pub countsOf : Words → Counts
+countsOf w = record { clocks = frameClocks (timing w); ticks = frameTicks w }
 
-unfoldable pub rateOf : Words → ℕ → Answer ℕ
-rateOf w hclk = judged (judge w) (frameRate w hclk)
-
--- the same by the words that a slice begins with: 10 for a slice short of nine words comes before all
+-- "counts and rate are judged by 1 to 7", by the words that a slice begins with
 unfoldable pub counts : List ℕ → Answer Counts
-counts s = andThen (load s) countsOf
+counts s = mapped countsOf (accept s)
 
 unfoldable pub rate : List ℕ → ℕ → Answer ℕ
-rate s hclk = andThen (load s) (λ w. rateOf w hclk)
+rate s hclk = mapped (λ w. frameRate w hclk) (accept s)

@@ -4,8 +4,10 @@ use mathlib.Core.Bool.{Bool, not, _&&_, _||_}
 use mathlib.Core.List.{List, [], _∷_}
 use Prim.Native.Nat.{ℕ, _+_, _-_, _*_, _%_, _^_}
 use lib.Dec.{eqb, ltb}
+use Rattle.laws.specs.Answers.{Answer, judged, andThen}
 use Rattle.laws.specs.Cases.{Case, _when_, lowest}
 use Rattle.registers.specs.Fields.{pnrmode, bppmode, bswp, hwswp, lcdbaseu, lcdbasel, pagewidth, offsize, reservedBit}
+use Rattle.registers.specs.Loading.{load}
 use Rattle.registers.specs.declared.Words.{Words}
 use Rattle.panel.specs.Geometry.{width, height, storedBits, outsideModes, rowOffset}
 
@@ -59,3 +61,7 @@ wordCases w =
 -- "The lowest number that applies to the call is given": by 1 to 7, 0 where none applies
 unfoldable pub judge : Words → ℕ
 judge w = lowest (wordCases w)
+
+-- the words that a slice begins with, where 1 to 7 accept them: "10 for a slice short of nine words" comes before all
+unfoldable pub accept : List ℕ → Answer Words
+accept s = andThen (load s) (λ w. judged (judge w) w)

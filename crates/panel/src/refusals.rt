@@ -1,14 +1,19 @@
 // Refusals 1 to 7: what the words alone decide. Each condition stands in a function of its own.
 ghost use mathlib.Core.Path.{_≡_};
+ghost use Rattle.laws.specs.Answers.{judged};
 ghost use Rattle.registers.specs.Fields.{bppmode};
+ghost use Rattle.registers.specs.Loading.{loaded};
 ghost use Rattle.panel.specs.Geometry.{storedBits};
-ghost use Rattle.panel.specs.Refusals.{notTft, noSuchMode, swapsIllegal, rowSizeWrong, endDiffers, pastBank, judge};
+ghost use Rattle.panel.specs.Refusals.{notTft, noSuchMode, swapsIllegal, rowSizeWrong, endDiffers, pastBank};
+ghost use Rattle.panel.specs.Refusals.{judge, accept};
 use super::geometry::Depth;
 use super::geometry::height;
 use super::geometry::row_offset;
 use super::geometry::stored_bits;
 use super::geometry::width;
+use registers::Loaded;
 use registers::Words;
+use registers::load;
 
 // The stored bits of the words' mode, 0 where there is none.
 fn bits_of(w: Words) -> u32
@@ -92,4 +97,25 @@ pub fn judge(w: Words) -> u32
         return 7;
     }
     0
+}
+
+fn accept_words(w: Words) -> Loaded
+    ensures { λ r. ⌜ loaded r ≡ judged (judge w) w ⌝ }
+{
+    let refusal = judge(w);
+    if refusal != 0 {
+        return Loaded::Refused(refusal);
+    }
+    Loaded::Nine(w)
+}
+
+// The nine words that a slice begins with, or the number of the refusal: 10 for a slice short of nine words, then 1 to 7.
+// Whoever has these words has them judged.
+pub fn accept(words: &[u32]) -> Loaded
+    ensures { λ r. ⌜ loaded r ≡ accept (now (words .entry)) ⌝ }
+{
+    match load(words) {
+        Loaded::Nine(w) => accept_words(w),
+        Loaded::Refused(n) => Loaded::Refused(n),
+    }
 }
