@@ -1,6 +1,7 @@
 // The panel's size, the stored bits of a pixel and where a row starts.
 ghost use mathlib.Core.Path.{_≡_};
-ghost use Rattle.panel.specs.Geometry.{width, height, depth, depthOf, pitch, rowOffset};
+ghost use Rattle.registers.specs.Fields.{bppmode};
+ghost use Rattle.panel.specs.Geometry.{width, height, depth, depthOf, storedBits, pitch, rowOffset};
 use registers::Words;
 
 // What a mode number selects: the stored bits of a pixel, or a refusal's number.
@@ -36,6 +37,16 @@ pub fn stored_bits(mode: u32) -> Depth
         12 => Depth::Stored(16),
         13 => Depth::Stored(32),
         14.. => Depth::Refused(3),
+    }
+}
+
+// The stored bits of the words' mode, 0 where there is none.
+pub fn bits_of(w: Words) -> u32
+    ensures { λ r. ⌜ r ≡ storedBits (bppmode w) ⌝ }
+{
+    match stored_bits(w.bppmode()) {
+        Depth::Stored(bits) => bits,
+        Depth::Refused(_) => 0,
     }
 }
 

@@ -1,12 +1,11 @@
 // Refusals 1 to 7: what the words alone decide. Each condition stands in a function of its own.
 ghost use mathlib.Core.Path.{_≡_};
 ghost use Rattle.laws.specs.Answers.{judged};
-ghost use Rattle.registers.specs.Fields.{bppmode};
 ghost use Rattle.registers.specs.Loading.{loaded};
-ghost use Rattle.panel.specs.Geometry.{storedBits};
 ghost use Rattle.panel.specs.Refusals.{notTft, noSuchMode, swapsIllegal, rowSizeWrong, endDiffers, pastBank};
 ghost use Rattle.panel.specs.Refusals.{judge, accept};
 use super::geometry::Depth;
+use super::geometry::bits_of;
 use super::geometry::height;
 use super::geometry::row_offset;
 use super::geometry::stored_bits;
@@ -14,16 +13,6 @@ use super::geometry::width;
 use registers::Loaded;
 use registers::Words;
 use registers::load;
-
-// The stored bits of the words' mode, 0 where there is none.
-fn bits_of(w: Words) -> u32
-    ensures { λ r. ⌜ r ≡ storedBits (bppmode w) ⌝ }
-{
-    match stored_bits(w.bppmode()) {
-        Depth::Stored(bits) => bits,
-        Depth::Refused(_) => 0,
-    }
-}
 
 fn not_tft(w: Words) -> bool
     ensures { λ r. ⌜ r ≡ notTft w ⌝ }

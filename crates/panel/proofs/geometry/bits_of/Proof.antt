@@ -1,10 +1,10 @@
--- `panel::refusals::bits_of` meets its contract. Assumes nothing.
+-- `panel::geometry::bits_of` meets its contract. Assumes nothing.
 use mathlib.Core.Path.{sym, ap, _∙_}
 use borrow.Author.Needs.{needs}
 use Rattle.panel.specs.Geometry.{depth, storedBits}
 use Rattle.panel.proofs.Modes.{accepted-mode, refused-mode, outside-stores-none}
-use Rattle.panel.proofs.refusals.bits_of.Statement.{statement}
-use Rattle.panel.proofs.refusals.bits_of.Tie as tie
+use Rattle.panel.proofs.geometry.bits_of.Statement.{statement}
+use Rattle.panel.proofs.geometry.bits_of.Tie as tie
 
 returns : tie.Need-returns
 returns c =
