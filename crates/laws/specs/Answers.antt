@@ -1,7 +1,7 @@
 -- What a call of the model gives (document 01, "Numbers of refusal"): an answer, or the number of a refusal and nothing else.
 -- The enum of each call is read as one of these, so that one set of laws serves them all. Assumes nothing.
 use mathlib.Core.Bool.{Bool, true, false}
-use mathlib.Core.List.{[], _∷_}
+use mathlib.Core.List.{List, [], _∷_}
 use mathlib.Core.Path.{_≡_, refl, sym, ap, _∙_}
 use Prim.Native.Nat.{ℕ, zero, suc, _<_}
 use native.Mathlib.Omega.{arith}
@@ -103,3 +103,42 @@ maps f x a b e v = ap accepted v ∙ ap (mapped f) e
 pub maps-refusal : {A B : Type 0} (f : A → B) (x : Answer A) (n : ℕ) → refused n ≡ x → refused n ≡ mapped f x
 unfolding mapped
 maps-refusal f x n e = ap (mapped f) e
+
+-- ---- a call that answers with a number only, 0 where it is done
+
+-- it goes on to judge another's answer, and passes a refusal on
+unfoldable pub judgedOn : {A : Type 0} → Answer A → (A → ℕ) → ℕ
+judgedOn (accepted a) f = f a
+judgedOn (refused n) f = n
+
+pub judges-on : {A : Type 0} (x : Answer A) (f : A → ℕ) (a : A) (r : ℕ) → accepted a ≡ x → r ≡ f a → r ≡ judgedOn x f
+unfolding judgedOn
+judges-on x f a r e v = v ∙ ap (λ (y : Answer _). judgedOn y f) e
+
+pub passes-number : {A : Type 0} (x : Answer A) (f : A → ℕ) (n : ℕ) → refused n ≡ x → n ≡ judgedOn x f
+unfolding judgedOn
+passes-number x f n e = ap (λ (y : Answer _). judgedOn y f) e
+
+-- ---- a call that writes to a lent slice
+
+-- what it leaves: its refusal number, 0 where it is done, and the slice
+pub record Outcome : Type 0 where
+  pub refusal : ℕ
+  pub left : List ℕ
+
+abbrev pub leaves : ℕ → List ℕ → Outcome
+leaves n s = record { refusal = n; left = s }
+
+-- "A refusal gives the number; lent memory stays": by the number n, the slice as it was and as it is written where n is 0
+unfoldable pub outcome : ℕ → List ℕ → List ℕ → Outcome
+outcome zero was written = leaves 0 written
+outcome (suc n) was written = leaves (suc n) was
+
+pub leaves-as-it-was : (r n : ℕ) (was written : List ℕ) → r ≡ n → (r ≡ 0 → ⊥) → leaves r was ≡ outcome n was written
+unfolding outcome
+leaves-as-it-was zero n was written e ne = absurd (ne refl)
+leaves-as-it-was (suc r) n was written e ne = ap (λ (k : ℕ). outcome k was written) e
+
+pub leaves-written : (n : ℕ) (was written left : List ℕ) → n ≡ 0 → left ≡ written → leaves 0 left ≡ outcome n was written
+unfolding outcome
+leaves-written n was written left z e = ap (leaves 0) e ∙ ap (λ (k : ℕ). outcome k was written) (sym z)

@@ -1,7 +1,10 @@
 -- Laws of the tests true and false that the other files share. Assumes nothing.
-use mathlib.Core.Path.{_≡_, refl}
+use mathlib.Core.Path.{_≡_, refl, sym, ap, _∙_}
 use mathlib.Core.Bool.{Bool, true, false, _&&_, _||_, true≢false}
 use mathlib.Core.List.{List, [], _∷_}
+use Prim.Native.Nat.{ℕ, zero, suc, _<_}
+use native.Mathlib.Decide.{ℕ-discrete}
+use native.Mathlib.Omega.{arith}
 use lib.Dec.{T}
 
 pub and-left : (a b : Bool) → T (a && b) → T a
@@ -31,6 +34,10 @@ pub or-never : (a : Bool) → a || false ≡ a
 or-never true = refl
 or-never false = refl
 
+pub or-true : (a : Bool) → a || true ≡ true
+or-true true = refl
+or-true false = refl
+
 -- one of the tests is true
 abbrev pub any : List Bool → Bool
 any [] = false
@@ -48,3 +55,31 @@ all-false (b ∷ bs) e = (or-false-left b (any bs) e, all-false bs (or-false-rig
 pub none-true : (bs : List Bool) → AllFalse bs → any bs ≡ false
 none-true [] f = refl
 none-true (b ∷ bs) f = or-false (f .0) (none-true bs (f .1))
+
+-- ---- a test at each number below n
+
+-- some number below n passes the test
+unfoldable pub someBelow : ℕ → (ℕ → Bool) → Bool
+someBelow zero p = false
+someBelow (suc n) p = p n || someBelow n p
+
+pub none-below : (n : ℕ) (p : ℕ → Bool) → ((i : ℕ) → i < n → p i ≡ false) → someBelow n p ≡ false
+unfolding someBelow
+none-below zero p f = refl
+none-below (suc n) p f = or-false (f n (omega arith)) (none-below n p (λ i h. f i (omega arith)))
+
+pub one-below : (n : ℕ) (p : ℕ → Bool) (i : ℕ) → i < n → p i ≡ true → someBelow n p ≡ true
+unfolding someBelow
+one-below zero p i h t = absurd (omega arith)
+one-below (suc n) p i h t = go (ℕ-discrete i n) (λ l. one-below n p i l t)
+  where
+    go : Dec (i ≡ n) → (i < n → someBelow n p ≡ true) → p n || someBelow n p ≡ true
+    go (yes e) below = rw (← e, t)
+    go (no ne) below = ap (λ (b : Bool). p n || b) (below (omega arith)) ∙ or-true (p n)
+
+pub each-below : (n : ℕ) (p : ℕ → Bool) → someBelow n p ≡ false → (i : ℕ) → i < n → p i ≡ false
+each-below n p e i h = go (p i) refl
+  where
+    go : (b : Bool) → p i ≡ b → p i ≡ false
+    go true t = absurd (true≢false (sym (one-below n p i h t) ∙ e))
+    go false t = t

@@ -2,13 +2,13 @@
 -- A call's judgement is a list of cases, each a condition with its number; lists join by ++. Assumes nothing.
 use mathlib.Core.Path.{_≡_, refl, sym, ap, _∙_}
 use mathlib.Core.Bool.{Bool, true, false, cond, _&&_}
-use mathlib.Core.List.{List, [], _∷_}
+use mathlib.Core.List.{List, [], _∷_, _++_}
 use mathlib.Core.Logic.{_⊎_, inl, inr, ⊎-elim}
 use Prim.Native.Nat.{ℕ, zero, suc, min, _<_}
 use native.Mathlib.Nat.{lt-trans}
 use native.Mathlib.Omega.{arith}
 use lib.Dec.{ltb, ltb→lt, T}
-use Rattle.laws.specs.Booleans.{and-left, and-right}
+use Rattle.laws.specs.Booleans.{and-left, and-right, and-both}
 
 pub record Case : Type 0 where
   pub number : ℕ
@@ -110,3 +110,50 @@ first-none n (c ∷ cs) t e = go (c .holds) (first-none (c .number) cs (onward n
 -- where the lowest number is 0, no condition holds
 pub lowest-zero-none-holds : (n : ℕ) (cs : List Case) → T (ascending n cs) → lowest cs ≡ 0 → NoneHolds cs
 lowest-zero-none-holds n cs t e = first-none n cs t (sym (lowest-of-ascending-is-first n cs t) ∙ e)
+
+-- ---- two lists, one after the other
+
+first-stays : (cs ds : List Case) → (first cs ≡ 0 → ⊥) → first (cs ++ ds) ≡ first cs
+unfolding first
+first-stays [] ds ne = absurd (ne refl)
+first-stays (c ∷ cs) ds ne = go (c .holds) (first-stays cs ds) ne
+  where
+    go : (b : Bool) → ((first cs ≡ 0 → ⊥) → first (cs ++ ds) ≡ first cs) → (cond b (c .number) (first cs) ≡ 0 → ⊥)
+        → cond b (c .number) (first (cs ++ ds)) ≡ cond b (c .number) (first cs)
+    go true f z = refl
+    go false f z = f z
+
+first-goes-on : (n : ℕ) (cs ds : List Case) → T (ascending n (cs ++ ds)) → first cs ≡ 0 → first (cs ++ ds) ≡ first ds
+unfolding first
+first-goes-on n [] ds t e = refl
+first-goes-on n (c ∷ cs) ds t e =
+    go (c .holds) (first-goes-on (c .number) cs ds (onward n c (cs ++ ds) t)) e
+  where
+    go : (b : Bool) → (first cs ≡ 0 → first (cs ++ ds) ≡ first ds) → cond b (c .number) (first cs) ≡ 0
+        → cond b (c .number) (first (cs ++ ds)) ≡ first ds
+    go true f z = absurd (omega (arith, rises n c (cs ++ ds) t, z))
+    go false f z = f z
+
+front-ascends : (n : ℕ) (cs ds : List Case) → T (ascending n (cs ++ ds)) → T (ascending n cs)
+front-ascends n [] ds t = tt
+front-ascends n (c ∷ cs) ds t =
+    and-both (ltb n (c .number)) (ascending (c .number) cs)
+    (and-left (ltb n (c .number)) (ascending (c .number) (cs ++ ds)) t)
+    (front-ascends (c .number) cs ds (onward n c (cs ++ ds) t))
+
+-- r, the lowest number of a list's front, is the whole list's where some condition of the front holds
+pub front-refuses : (r : ℕ) (cs ds : List Case) → T (ascending 0 (cs ++ ds)) → r ≡ lowest cs → (r ≡ 0 → ⊥)
+    → r ≡ lowest (cs ++ ds)
+front-refuses r cs ds t e ne =
+    first-is ∙ sym (first-stays cs ds (λ z. ne (first-is ∙ z))) ∙ sym (lowest-of-ascending-is-first 0 (cs ++ ds) t)
+  where
+    first-is : r ≡ first cs
+    first-is = e ∙ lowest-of-ascending-is-first 0 cs (front-ascends 0 cs ds t)
+
+-- where none of it holds, the program looks on in the rest
+pub front-passes : (r : ℕ) (cs ds : List Case) → T (ascending 0 (cs ++ ds)) → r ≡ lowest cs → r ≡ 0
+    → lowest (cs ++ ds) ≡ first ds
+front-passes r cs ds t e z =
+    lowest-of-ascending-is-first 0 (cs ++ ds) t
+    ∙ first-goes-on 0 cs ds t
+    (sym (lowest-of-ascending-is-first 0 cs (front-ascends 0 cs ds t)) ∙ sym e ∙ z)

@@ -5,3 +5,4 @@ pub mod Cases
 pub mod Products
 pub mod Shifts
 pub mod Tables
+pub mod Storing

@@ -1,0 +1,150 @@
+-- Refusal 8 in closed form, and what its absence gives (document 01, "Where a pixel lies", "Numbers of refusal"): all words of all
+-- rows lie in the lent memory exactly when the first row does not start before it and the last does not end after it.
+-- Assumes nothing.
+use mathlib.Core.Bool.{Bool, true, false, not, _||_, true≢false}
+use mathlib.Core.Path.{_≡_, refl, sym, ap, _∙_}
+use Prim.Native.Nat.{ℕ, _+_, _-_, _*_, _/_, _%_, _^_, _<_, _≤_}
+use native.Mathlib.Nat.{mul-le-mul-right}
+use native.Mathlib.Omega.{arith}
+use borrow.Author.Tests.{lt-ltb, le-ltb, ltb-true, ltb-false, eqb-true, not-false}
+use lib.Dec.{eqb, ltb}
+use Rattle.laws.specs.Booleans.{someBelow, none-below, one-below, each-below, or-false, or-false-left, or-false-right, or-true}
+use Rattle.laws.specs.Products.{product-le}
+use Rattle.panel.specs.Geometry.{width, height, pitch, rowOffset, storedBits}
+use Rattle.panel.specs.Refusals.{judge}
+use Rattle.panel.proofs.Accepted.{Accepted, row-starts-at-word}
+use Rattle.panel.proofs.Bounds.{row-offset-le}
+use Rattle.panel.proofs.Modes.{stored-bits-pos}
+use Rattle.registers.specs.Fields.{lcdbank, pagewidth, bppmode}
+use Rattle.registers.specs.declared.Words.{Words}
+use Rattle.drawing.specs.Memory.{rowAddress, rowWords, wordOutside, outsideMemory, firstWord}
+
+-- ---- rows
+
+pub row-address-le : (w : Words) (r n : ℕ) → r ≤ n → rowAddress w r ≤ 2 ^ 31 + 2 * (2 ^ 21 + n * 4094)
+unfolding rowAddress
+row-address-le w r n h = omega (arith, row-offset-le w r n h)
+
+pub rows-rise : (w : Words) (r s : ℕ) → r ≤ s → rowAddress w r ≤ rowAddress w s
+unfolding rowAddress rowOffset
+rows-rise w r s h = omega (arith, mul-le-mul-right {m = r} {n = s} (pitch w) h)
+
+pub row-has-words : (w : Words) → Accepted w → 2 ≤ pagewidth w
+row-has-words w a =
+    omega (
+      arith,
+      a .row-bits,
+      a .row-even,
+      product-le 1 (width w) 1 (storedBits (bppmode w)) (omega arith) (stored-bits-pos (bppmode w) (a .mode)),
+    )
+
+pub row-at-word : (w : Words) → Accepted w → (r : ℕ) → rowAddress w r % 4 ≡ 0
+unfolding rowAddress
+row-at-word w a r = omega (arith, row-starts-at-word w a r)
+
+-- ---- the closed form
+
+abbrev pub beforeWindow : Words → ℕ → Bool
+beforeWindow w start = ltb (rowAddress w 0) start
+
+abbrev pub pastWindow : Words → ℕ → ℕ → Bool
+pastWindow w start lent = ltb (start + 4 * lent) (rowAddress w (height w - 1) + 2 * pagewidth w)
+
+module _ (w : Words) (a : Accepted w) (start lent : ℕ) where
+  someWord : ℕ → Bool
+  someWord r = someBelow (rowWords w) (λ i. wordOutside start lent (rowAddress w r + 4 * i))
+
+  inside : beforeWindow w start ≡ false → pastWindow w start lent ≡ false → someBelow (height w) someWord ≡ false
+  unfolding someWord wordOutside
+  inside first last =
+      none-below (height w) someWord
+      (λ r h.
+      none-below (rowWords w) (λ i. wordOutside start lent (rowAddress w r + 4 * i))
+      (λ i l.
+      or-false
+      (le-ltb (rowAddress w r + 4 * i) start
+      (omega (arith, ltb-false (rowAddress w 0) start first, rows-rise w 0 r (omega arith))))
+      (le-ltb (start + 4 * lent) (rowAddress w r + 4 * i + 4)
+      (omega (
+        arith,
+        ltb-false (start + 4 * lent) (rowAddress w (height w - 1) + 2 * pagewidth w) last,
+        rows-rise w r (height w - 1) (omega arith),
+        a .row-even,
+      )))))
+
+  first-word : beforeWindow w start ≡ true → someBelow (height w) someWord ≡ true
+  unfolding someWord wordOutside
+  first-word t =
+      one-below (height w) someWord 0 (omega arith)
+      (one-below (rowWords w) (λ i. wordOutside start lent (rowAddress w 0 + 4 * i)) 0 (omega (arith, row-has-words w a))
+      (rw (lt-ltb (rowAddress w 0 + 4 * 0) start (omega (arith, ltb-true (rowAddress w 0) start t)))))
+
+  last-word : pastWindow w start lent ≡ true → someBelow (height w) someWord ≡ true
+  unfolding someWord wordOutside
+  last-word t =
+      one-below (height w) someWord (height w - 1) (omega arith)
+      (one-below (rowWords w) (λ i. wordOutside start lent (rowAddress w (height w - 1) + 4 * i)) (rowWords w - 1)
+      (omega (arith, row-has-words w a))
+      (ap (λ (b : Bool). ltb (rowAddress w (height w - 1) + 4 * (rowWords w - 1)) start || b)
+      (lt-ltb (start + 4 * lent) (rowAddress w (height w - 1) + 4 * (rowWords w - 1) + 4)
+      (omega (
+        arith,
+        ltb-true (start + 4 * lent) (rowAddress w (height w - 1) + 2 * pagewidth w) t,
+        row-has-words w a,
+        a .row-even,
+      )))
+      ∙ or-true (ltb (rowAddress w (height w - 1) + 4 * (rowWords w - 1)) start)))
+
+  pub closed-form : outsideMemory w start lent ≡ not (eqb (start % 4) 0) || (beforeWindow w start || pastWindow w start lent)
+  unfolding outsideMemory someWord
+  closed-form = ap (λ (b : Bool). not (eqb (start % 4) 0) || b) (go (beforeWindow w start) refl (pastWindow w start lent) refl)
+    where
+      go : (p : Bool) → beforeWindow w start ≡ p → (q : Bool) → pastWindow w start lent ≡ q
+          → someBelow (height w) someWord ≡ p || q
+      go true e q e′ = first-word e
+      go false e true e′ = last-word e′
+      go false e false e′ = inside e e′
+
+  -- ---- how a program looks: at the start, and then at the end
+
+  pub outside-early : not (eqb (start % 4) 0) || beforeWindow w start ≡ true → true ≡ outsideMemory w start lent
+  outside-early t = go (not (eqb (start % 4) 0)) (beforeWindow w start) (pastWindow w start lent) t ∙ sym closed-form
+    where
+      go : (m b p : Bool) → m || b ≡ true → true ≡ m || (b || p)
+      go true b p e = refl
+      go false true p e = refl
+      go false false p e = absurd (true≢false (sym e))
+
+  module _ (f : not (eqb (start % 4) 0) || beforeWindow w start ≡ false) where
+    pub start-at-word : start % 4 ≡ 0
+    start-at-word =
+        eqb-true (start % 4) 0
+        (not-false (eqb (start % 4) 0) (or-false-left (not (eqb (start % 4) 0)) (beforeWindow w start) f))
+
+    pub start-before : start ≤ rowAddress w 0
+    start-before = ltb-false (rowAddress w 0) start (or-false-right (not (eqb (start % 4) 0)) (beforeWindow w start) f)
+
+    pub outside-late : ltb lent ((rowAddress w (height w - 1) + 2 * pagewidth w - start) / 4) ≡ outsideMemory w start lent
+    outside-late =
+        go (pastWindow w start lent) refl
+        ∙ sym (closed-form
+        ∙ rw (
+          or-false-left (not (eqb (start % 4) 0)) (beforeWindow w start) f,
+          or-false-right (not (eqb (start % 4) 0)) (beforeWindow w start) f,
+        ))
+      where
+        go : (p : Bool) → pastWindow w start lent ≡ p → ltb lent ((rowAddress w (height w - 1) + 2 * pagewidth w - start) / 4) ≡ pastWindow w start lent
+        go true e =
+            lt-ltb lent ((rowAddress w (height w - 1) + 2 * pagewidth w - start) / 4)
+            (omega (
+              arith,
+              ltb-true (start + 4 * lent) (rowAddress w (height w - 1) + 2 * pagewidth w) e,
+              start-at-word,
+              row-at-word w a (height w - 1),
+              a .row-even,
+            ))
+            ∙ sym e
+        go false e =
+            le-ltb lent ((rowAddress w (height w - 1) + 2 * pagewidth w - start) / 4)
+            (omega (arith, ltb-false (start + 4 * lent) (rowAddress w (height w - 1) + 2 * pagewidth w) e))
+            ∙ sym e

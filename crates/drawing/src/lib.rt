@@ -1,0 +1,3 @@
+// The screen as the words, the palette and the lent video memory give it (document 01, "Where a pixel lies", "Colours", "Numbers
+// of refusal"): refusal 8 and the check, one pixel, a row, the picture, a stretch of it.
+pub mod memory;

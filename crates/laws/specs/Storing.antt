@@ -1,0 +1,62 @@
+-- Storing into a lent slice (document 01, "Colours": entries are filled one after another, the others stay). A loop that stores
+-- one entry a turn, or lets another function store some, leaves what `stores` says. Assumes nothing.
+use mathlib.Core.List.{List}
+use mathlib.Core.Path.{_≡_, refl, ap, _∙_}
+use Prim.Native.Nat.{ℕ, zero, suc, _+_, _*_, _/_, _%_, _<_, _≤_}
+use native.Mathlib.Decide.{ℕ-discrete}
+use native.Mathlib.Nat.{add-assoc, add-suc, add-zero}
+use native.Mathlib.Numerals.{add-one}
+use native.Mathlib.Omega.{arith}
+use lib.Arith.{digits-div, digits-mod}
+use lib.ListN.{length, set, getD, length-set}
+use lib.Seq.{getD-set-same, getD-set-other}
+
+-- d with the n entries from `at` on set to g 0, g 1 and so on; the others as they were
+unfoldable pub stores : (ℕ → ℕ) → ℕ → ℕ → List ℕ → List ℕ
+stores g at zero d = d
+stores g at (suc n) d = set (stores g at n d) (at + n) (g n)
+
+-- ---- entry by entry
+
+pub length-stores : (g : ℕ → ℕ) (at n : ℕ) (d : List ℕ) → length (stores g at n d) ≡ length d
+unfolding stores
+length-stores g at zero d = refl
+length-stores g at (suc n) d = length-set (stores g at n d) (at + n) (g n) ∙ length-stores g at n d
+
+pub entry-outside : (g : ℕ → ℕ) (at n : ℕ) (d : List ℕ) (j : ℕ) → ((i : ℕ) → i < n → j ≡ at + i → ⊥)
+    → getD (stores g at n d) j 0 ≡ getD d j 0
+unfolding stores
+entry-outside g at zero d j out = refl
+entry-outside g at (suc n) d j out =
+    getD-set-other (stores g at n d) (at + n) j (g n) 0 (out n (omega arith))
+    ∙ entry-outside g at n d j (λ i h. out i (omega arith))
+
+pub entry-stored : (g : ℕ → ℕ) (at n : ℕ) (d : List ℕ) (i : ℕ) → at + n ≤ length d → i < n
+    → getD (stores g at n d) (at + i) 0 ≡ g i
+unfolding stores
+entry-stored g at zero d i room h = absurd (omega arith)
+entry-stored g at (suc n) d i room h = go (ℕ-discrete i n) (λ l. entry-stored g at n d i (omega arith) l)
+  where
+    go : Dec (i ≡ n) → (i < n → getD (stores g at n d) (at + i) 0 ≡ g i)
+        → getD (set (stores g at n d) (at + n) (g n)) (at + i) 0 ≡ g i
+    go (yes e) below =
+        rw e (getD-set-same (stores g at n d) (at + n) (g n) 0 (omega (arith, length-stores g at n d)))
+    go (no ne) below =
+        getD-set-other (stores g at n d) (at + n) (at + i) (g n) 0 (λ e. ne (omega arith)) ∙ below (omega arith)
+
+-- ---- the same entries, and more of them
+
+pub stores-same : (g h : ℕ → ℕ) (at n : ℕ) (d : List ℕ) → ((i : ℕ) → i < n → g i ≡ h i)
+    → stores g at n d ≡ stores h at n d
+unfolding stores
+stores-same g h at zero d e = refl
+stores-same g h at (suc n) d e =
+    rw (e n (omega arith), stores-same g h at n d (λ i l. e i (omega arith)))
+
+-- m entries, and then n more
+pub stores-add : (g : ℕ → ℕ) (at m n : ℕ) (d : List ℕ)
+    → stores (λ i. g (m + i)) (at + m) n (stores g at m d) ≡ stores g at (m + n) d
+unfolding stores
+stores-add g at m zero d = rw add-zero
+stores-add g at m (suc n) d =
+    rw (add-suc, add-assoc) (ap (λ (p : List ℕ). set p (at + (m + n)) (g (m + n))) (stores-add g at m n d))
