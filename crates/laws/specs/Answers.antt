@@ -142,3 +142,18 @@ leaves-as-it-was (suc r) n was written e ne = ap (λ (k : ℕ). outcome k was wr
 pub leaves-written : (n : ℕ) (was written left : List ℕ) → n ≡ 0 → left ≡ written → leaves 0 left ≡ outcome n was written
 unfolding outcome
 leaves-written n was written left z e = ap (leaves 0) e ∙ ap (λ (k : ℕ). outcome k was written) (sym z)
+
+-- it goes on with another's answer; a refusal is passed on, and the slice stays
+unfoldable pub outcomeOn : {A : Type 0} → Answer A → List ℕ → (A → Outcome) → Outcome
+outcomeOn (accepted a) was f = f a
+outcomeOn (refused n) was f = leaves n was
+
+pub writes-on : {A : Type 0} (x : Answer A) (was : List ℕ) (f : A → Outcome) (a : A) (o : Outcome) → accepted a ≡ x → o ≡ f a
+    → o ≡ outcomeOn x was f
+unfolding outcomeOn
+writes-on x was f a o e v = v ∙ ap (λ (y : Answer _). outcomeOn y was f) e
+
+pub leaves-on : {A : Type 0} (x : Answer A) (was : List ℕ) (f : A → Outcome) (n : ℕ) → refused n ≡ x
+    → leaves n was ≡ outcomeOn x was f
+unfolding outcomeOn
+leaves-on x was f n e = ap (λ (y : Answer _). outcomeOn y was f) e

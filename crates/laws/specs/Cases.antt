@@ -5,6 +5,7 @@ use mathlib.Core.Bool.{Bool, true, false, cond, _&&_}
 use mathlib.Core.List.{List, [], _∷_, _++_}
 use mathlib.Core.Logic.{_⊎_, inl, inr, ⊎-elim}
 use Prim.Native.Nat.{ℕ, zero, suc, min, _<_}
+use native.Mathlib.Decide.{ℕ-discrete}
 use native.Mathlib.Nat.{lt-trans}
 use native.Mathlib.Omega.{arith}
 use lib.Dec.{ltb, ltb→lt, T}
@@ -90,6 +91,11 @@ pub stops : (r n : ℕ) (b : Bool) (cs : List Case) → r ≡ first (n when b �
 unfolding first
 stops r n b cs e t = sym (rw t at e)
 
+-- past the last of them
+pub ends : (r n : ℕ) (b : Bool) → r ≡ first (n when b ∷ []) → b ≡ false → 0 ≡ r
+unfolding first
+ends r n b e f = sym (rw f at e)
+
 -- ---- what acceptance says
 
 -- no condition of the list holds
@@ -157,3 +163,15 @@ front-passes r cs ds t e z =
     lowest-of-ascending-is-first 0 (cs ++ ds) t
     ∙ first-goes-on 0 cs ds t
     (sym (lowest-of-ascending-is-first 0 cs (front-ascends 0 cs ds t)) ∙ sym e ∙ z)
+
+-- where the whole list's number is 0, the front's is 0 and no condition of the rest holds
+pub both-pass : (cs ds : List Case) → T (ascending 0 (cs ++ ds)) → T (ascending 0 ds) → lowest (cs ++ ds) ≡ 0
+    → (lowest cs ≡ 0) × NoneHolds ds
+both-pass cs ds t u e = (front, first-none 0 ds u (sym (front-passes (lowest cs) cs ds t refl front) ∙ e))
+  where
+    front : lowest cs ≡ 0
+    front = go (ℕ-discrete (lowest cs) 0)
+      where
+        go : Dec (lowest cs ≡ 0) → lowest cs ≡ 0
+        go (yes z) = z
+        go (no ne) = absurd (ne (front-refuses (lowest cs) cs ds t refl ne ∙ e))

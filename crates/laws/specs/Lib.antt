@@ -2,6 +2,7 @@ pub mod Answers
 pub mod BitFields
 pub mod Booleans
 pub mod Cases
+pub mod Packing
 pub mod Products
 pub mod Shifts
 pub mod Tables
