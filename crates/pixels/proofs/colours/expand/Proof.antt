@@ -1,0 +1,15 @@
+-- `pixels::colours::expand` meets its contract. Assumes nothing.
+use Rattle.pixels.specs.Colours.{expanded}
+use Rattle.pixels.proofs.colours.expand.Statement.{statement}
+use Rattle.pixels.proofs.colours.expand.Tie as tie
+
+returns : tie.Need-returns
+unfolding expanded
+returns c = rw (c .before .if1 .taken) (c .expand-565 .ensures)
+
+returns-2 : tie.Need-returns-2
+unfolding expanded
+returns-2 c = rw (c .before .if1 .left) (c .expand-5551 .ensures)
+
+pub expand-spec : {M : Type 1} → statement M
+expand-spec = tie.close (tie.spec (λ c κs. tt) (λ c κs. tt) returns returns-2)

@@ -1,0 +1,31 @@
+// What the words say about the meaning of a pixel's bits, read from them once.
+ghost use mathlib.Core.Path.{_≡_};
+ghost use Rattle.pixels.specs.Format.{format};
+use panel::geometry::bits_of;
+use registers::Words;
+
+// Stored bits of a pixel, the two swaps, the place of 24 bits in a word, the expansion of 16 bits, the temporary palette.
+pub struct Format {
+    pub bits: u32,
+    pub bswp: bool,
+    pub hwswp: bool,
+    pub bpp24bl: bool,
+    pub frm565: bool,
+    pub tpalen: bool,
+    pub tpalval: u32,
+}
+
+// The format of the words' pixels.
+pub fn format_of(w: Words) -> Format
+    ensures { λ r. ⌜ r ≡ format w ⌝ }
+{
+    Format {
+        bits: bits_of(w),
+        bswp: w.bswp() == 1,
+        hwswp: w.hwswp() == 1,
+        bpp24bl: w.bpp24bl() == 1,
+        frm565: w.frm565() == 1,
+        tpalen: w.tpalen() == 1,
+        tpalval: w.tpalval(),
+    }
+}
