@@ -1,1 +1,7 @@
+pub mod Formats
+pub mod LentMemory
+pub mod Parts
+pub mod Pixels
+pub mod Rows
+pub mod Touched
 pub mod Window

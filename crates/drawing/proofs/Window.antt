@@ -3,21 +3,20 @@
 -- Assumes nothing.
 use mathlib.Core.Bool.{Bool, true, false, not, _||_, true≢false}
 use mathlib.Core.Path.{_≡_, refl, sym, ap, _∙_}
-use Prim.Native.Nat.{ℕ, _+_, _-_, _*_, _/_, _%_, _^_, _<_, _≤_}
+use Prim.Native.Nat.{ℕ, _+_, _-_, _*_, _/_, _%_, _^_, _≤_}
 use native.Mathlib.Nat.{mul-le-mul-right}
 use native.Mathlib.Omega.{arith}
 use borrow.Author.Tests.{lt-ltb, le-ltb, ltb-true, ltb-false, eqb-true, not-false}
 use lib.Dec.{eqb, ltb}
-use Rattle.laws.specs.Booleans.{someBelow, none-below, one-below, each-below, or-false, or-false-left, or-false-right, or-true}
+use Rattle.laws.specs.Booleans.{someBelow, none-below, one-below, or-false, or-false-left, or-false-right, or-true}
 use Rattle.laws.specs.Products.{product-le}
 use Rattle.panel.specs.Geometry.{width, height, pitch, rowOffset, storedBits}
-use Rattle.panel.specs.Refusals.{judge}
 use Rattle.panel.proofs.Accepted.{Accepted, row-starts-at-word}
 use Rattle.panel.proofs.Bounds.{row-offset-le}
 use Rattle.panel.proofs.Modes.{stored-bits-pos}
-use Rattle.registers.specs.Fields.{lcdbank, pagewidth, bppmode}
+use Rattle.registers.specs.Fields.{pagewidth, bppmode}
 use Rattle.registers.specs.declared.Words.{Words}
-use Rattle.drawing.specs.Memory.{rowAddress, rowWords, wordOutside, outsideMemory, firstWord}
+use Rattle.drawing.specs.Memory.{rowAddress, rowWords, wordOutside, outsideMemory}
 
 -- ---- rows
 

@@ -1,1 +1,4 @@
 pub mod Memory
+pub mod Colour
+pub mod Drawing
+pub mod Core

@@ -1,8 +1,7 @@
 -- `drawing::memory::judge_memory` meets its contract: 1 to 7, and then 8. Assumes nothing.
-use mathlib.Core.List.{[]}
 use mathlib.Core.Path.{sym, _∙_}
 use borrow.Author.Needs.{needs}
-use Rattle.laws.specs.Cases.{front-refuses, front-passes, first, skips, stops}
+use Rattle.laws.specs.Cases.{front-refuses, front-passes, stops, ends}
 use Rattle.panel.specs.Refusals.{judge}
 use Rattle.drawing.specs.Memory.{judgeMemory}
 use Rattle.drawing.proofs.memory.judge_memory.Statement.{statement}
@@ -20,11 +19,11 @@ returns-2 c =
     (sym (c .before .outside-memory .ensures) ∙ c .if2 .taken)
 
 returns-3 : tie.Need-returns-3
-unfolding judgeMemory judge first
+unfolding judgeMemory judge
 returns-3 c =
     let to-7 = c .before .before .before in
-    sym (skips _ 8 _ [] (front-passes _ _ _ tt (to-7 .judge .ensures) (c .before .before .if1 .left))
-    (sym (c .before .outside-memory .ensures) ∙ c .if2 .left))
+    ends _ _ _ (front-passes _ _ _ tt (to-7 .judge .ensures) (c .before .before .if1 .left))
+    (sym (c .before .outside-memory .ensures) ∙ c .if2 .left)
 
 pub judge-memory-spec : {M : Type 1} → statement M
 judge-memory-spec =

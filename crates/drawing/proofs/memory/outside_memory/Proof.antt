@@ -1,10 +1,8 @@
 -- `drawing::memory::outside_memory` meets its contract: the closed form of refusal 8. Assumes nothing.
-use mathlib.Core.Path.{_≡_, sym, ap}
-use Prim.Native.Nat.{_+_, _-_, _*_}
+use Prim.Native.Nat.{_-_}
 use native.Mathlib.Omega.{arith}
 use borrow.Author.Needs.{needs}
 use Rattle.panel.proofs.Accepted.{accepted-words}
-use Rattle.drawing.specs.Memory.{rowAddress}
 use Rattle.drawing.proofs.Window.{row-address-le, outside-early, outside-late, start-before, rows-rise}
 use Rattle.drawing.proofs.memory.outside_memory.Statement.{statement}
 use Rattle.drawing.proofs.memory.outside_memory.Tie as tie
