@@ -1,0 +1,85 @@
+// The bench program (document 01, "The bench"): nine words, HCLK, window start, palette and video words come on standard input;
+// out goes one line of counts and one line a row, or `refused N`. All input is read before anything is printed, and a refusal
+// is known before the counts are printed.
+ghost use Prim.Native.Nat.{_≤_};
+ghost use lib.ListN.{length};
+
+mod input;
+mod output;
+
+use drawing::row::draw_row;
+use input::halves;
+use input::length_refused;
+use input::words;
+use output::print_counts;
+use output::print_refused;
+use output::print_row;
+use panel::geometry::height;
+use panel::geometry::width;
+use registers::Loaded;
+use registers::Words;
+use registers::load;
+
+// Every row from the first on. None is refused where the first was not: what differs from row to row is its number alone, and
+// that stays below the height. A refusal would end the output.
+fn print_rows(w: Words, window_start: u32, video: &[u32], palette: &[u16], row: &mut [u32])
+    requires { ⌜ 2048 ≤ length (now row) ⌝ }
+{
+    let wide = width(w) as usize;
+    let high = height(w);
+    let mut r = 0;
+    while r < high {
+        if draw_row(w, window_start, video, palette, r, row) != 0 {
+            return;
+        }
+        print_row(&row[..wide]);
+        r += 1;
+    }
+}
+
+// Draws the first row to see whether the panel is refused.
+fn print_panel(w: Words, hclk: u32, window_start: u32, video: &[u32], palette: &[u16]) {
+    let mut row = [0u32; 2048];
+    let refusal = draw_row(w, window_start, video, palette, 0, &mut row);
+    if refusal != 0 {
+        print_refused(refusal);
+        return;
+    }
+    print_counts(w, hclk);
+    print_rows(w, window_start, video, palette, &mut row);
+}
+
+// Words, HCLK and window start come first, then the palette.
+fn print_video(bytes: &[u8], video: &[u32])
+    requires { ⌜ 556 ≤ length (now bytes) ⌝ }
+{
+    let mut palette = [0u16; 256];
+    halves(bytes, 44, 256, &mut palette);
+    let mut head = [0u32; 11];
+    words(bytes, 0, 11, &mut head);
+    match load(&head) {
+        Loaded::Nine(w) => print_panel(w, head[9], head[10], video, &palette),
+        Loaded::Refused(refusal) => print_refused(refusal),
+    }
+}
+
+// The first n bytes are the input; its tail are the video words.
+fn print_input(bytes: &[u8], n: usize)
+    requires { ⌜ (n ≤ length (now bytes)) × (556 ≤ n) × (n ≤ 33324) ⌝ }
+{
+    let mut video = [0u32; 8192];
+    let tail = (n - 556) / 4;
+    words(bytes, 556, tail, &mut video);
+    print_video(bytes, &video[..tail]);
+}
+
+// The buffer has room for the longest input and one byte more, by which a longer one is seen.
+fn main() {
+    let mut bytes = [0u8; 33325];
+    let n = io::read_full(libc::STDIN_FILENO, &mut bytes);
+    if length_refused(n) {
+        print_refused(14);
+        return;
+    }
+    print_input(&bytes, n);
+}
