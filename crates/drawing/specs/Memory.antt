@@ -18,7 +18,7 @@ use Rattle.registers.specs.declared.Words.{Words}
 unfoldable pub rowAddress : Words → ℕ → ℕ
 rowAddress w r = lcdbank w * 2 ^ 22 + 2 * rowOffset w r
 
--- "Each row is PAGEWIDTH half-words long": so many words
+-- "Each row is PAGEWIDTH half-words long": so many words, PAGEWIDTH being even wherever 8 is given (refusal 5)
 abbrev pub rowWords : Words → ℕ
 rowWords w = pagewidth w / 2
 
