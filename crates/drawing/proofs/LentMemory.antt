@@ -3,7 +3,7 @@
 use mathlib.Core.Bool.{Bool, false, not, _||_}
 use mathlib.Core.List.{List, [], _∷_}
 use mathlib.Core.Path.{_≡_, sym, ap₂, _∙_}
-use Prim.Native.Nat.{ℕ, _+_, _-_, _*_, _%_, _<_, _≤_}
+use Prim.Native.Nat.{ℕ, _+_, _-_, _*_, _/_, _%_, _<_, _≤_}
 use native.Mathlib.Nat.{le-of-eq}
 use native.Mathlib.Omega.{arith}
 use borrow.Author.Tests.{eqb-true, ltb-false, not-false}
@@ -21,7 +21,7 @@ use Rattle.registers.specs.Fields.{pagewidth}
 use Rattle.registers.specs.declared.Words.{Words}
 use Rattle.drawing.specs.Colour.{rowColour, colour}
 use Rattle.drawing.specs.Core.{Legal, InRow, Lent}
-use Rattle.drawing.specs.Drawing.{videoOff, paletteWrong, tooShort, judgeDrawing}
+use Rattle.drawing.specs.Drawing.{videoOff, paletteWrong, tooShort, judgeDrawing, colourInOrder}
 use Rattle.drawing.specs.Memory.{rowAddress, rowWords, outsideMemory, memoryCases, judgeMemory, firstWord}
 use Rattle.drawing.proofs.Formats.{legal-format}
 use Rattle.drawing.proofs.Window.{rows-rise, row-at-word, beforeWindow, pastWindow, closed-form, start-at-word, start-before}
@@ -132,3 +132,9 @@ module _ (w : Words) (start : ℕ) (memory palette : List ℕ) (r : ℕ) (f : Fo
       → left ≡ stores (colour w start memory palette r) 0 (width w) row
   row-drawn n row left e d =
       d ∙ stores-as (rowColour f memory palette base) (colour w start memory palette r) 0 n (width w) row e (λ i h. colour-is i)
+
+-- the colour of the pixel with a number in reading order
+pub in-order : (w : Words) (start : ℕ) (memory palette : List ℕ) (i r c : ℕ) → i / width w ≡ r → i % width w ≡ c
+    → colour w start memory palette r c ≡ colourInOrder w start memory palette i
+unfolding colourInOrder
+in-order w start memory palette i r c e e′ = sym (ap₂ (colour w start memory palette) e e′)

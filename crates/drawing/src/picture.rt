@@ -9,6 +9,7 @@ ghost use Rattle.drawing.specs.Core.{Lent};
 ghost use Rattle.drawing.specs.Drawing.{pixels, tooShort, judgeDrawing, colourInOrder, drawPicture, drawStretch};
 use super::columns::draw_columns;
 use super::columns::least;
+use super::columns::pixel_at;
 use super::memory::first_word;
 use super::refusals::judge_drawing;
 use super::table::colour_table;
@@ -72,6 +73,50 @@ fn draw_rows(
     }
 }
 
+// The same for few pixels: one by one, without the table of colours.
+fn draw_few(
+    w: Words,
+    window_start: u32,
+    video: &[u32],
+    palette: &[u16],
+    first: usize,
+    count: usize,
+    picture: &mut [u32],
+)
+    requires { ⌜ Lent w «window_start» (now video) (now palette) × (first + count ≤ pixels w) × (pixels w ≤ length (now picture)) ⌝ }
+    ensures { λ _. ⌜ now (picture .exit) ≡ stores (λ k. colourInOrder w «window_start» (now (video .entry)) (now (palette .entry)) (first + k)) first count (now (picture .entry)) ⌝ }
+{
+    let f = format_of(w);
+    let wide = width(w) as usize;
+    let mut i = 0;
+    while i < count {
+        let number = first + i;
+        let base = first_word(w, window_start, (number / wide) as u32);
+        picture[number] = pixel_at(f, video, base, palette, number % wide);
+        i += 1;
+    }
+}
+
+// The pixels by whichever of the two is the quicker: a table costs as much as some eight pixels.
+fn draw_numbers(
+    w: Words,
+    window_start: u32,
+    video: &[u32],
+    palette: &[u16],
+    first: usize,
+    count: usize,
+    picture: &mut [u32],
+)
+    requires { ⌜ Lent w «window_start» (now video) (now palette) × (first + count ≤ pixels w) × (pixels w ≤ length (now picture)) ⌝ }
+    ensures { λ _. ⌜ now (picture .exit) ≡ stores (λ k. colourInOrder w «window_start» (now (video .entry)) (now (palette .entry)) (first + k)) first count (now (picture .entry)) ⌝ }
+{
+    if count < 8 {
+        draw_few(w, window_start, video, palette, first, count, picture);
+    } else {
+        draw_rows(w, window_start, video, palette, first, count, picture);
+    }
+}
+
 // Draws the picture to the first W x H entries of the lent picture, row after row; the others stay. 0, or the number of the
 // refusal: 1 to 8, 9, 10 for a palette that has not 256 entries or a picture shorter than W x H. A refusal changes nothing.
 pub fn draw_picture(
@@ -119,7 +164,7 @@ pub fn draw_stretch(
     if (pixels_of(w) as usize) < first as usize + count as usize {
         return 11;
     }
-    draw_rows(
+    draw_numbers(
         w,
         window_start,
         video,

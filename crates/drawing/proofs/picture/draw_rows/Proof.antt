@@ -1,7 +1,6 @@
 -- `drawing::picture::draw_rows` meets its contract: a row a turn. Assumes nothing.
-use mathlib.Core.List.{List}
-use mathlib.Core.Path.{_≡_, refl, sym, ap₂, _∙_}
-use Prim.Native.Nat.{ℕ, _+_, _-_, _/_, _%_}
+use mathlib.Core.Path.{refl, _∙_}
+use Prim.Native.Nat.{_+_, _-_}
 use native.Mathlib.Nat.{div-le-self}
 use native.Mathlib.Omega.{arith}
 use borrow.Author.Needs.{needs}
@@ -9,11 +8,9 @@ use lib.ListN.{length}
 use Rattle.laws.specs.Products.{product-le}
 use Rattle.laws.specs.Storing.{Stored, none-stored, some-more, all-stored}
 use Rattle.panel.specs.Geometry.{width, height}
-use Rattle.registers.specs.declared.Words.{Words}
-use Rattle.drawing.specs.Colour.{colour}
 use Rattle.drawing.specs.Drawing.{colourInOrder}
 use Rattle.drawing.proofs.Formats.{row-shorter}
-use Rattle.drawing.proofs.LentMemory.{legal-lent, row-lent, row-after-start, colour-is}
+use Rattle.drawing.proofs.LentMemory.{legal-lent, row-lent, row-after-start, colour-is, in-order}
 use Rattle.drawing.proofs.Rows.{Standing, begin, Turn, some, one-row, few, next, its-row, its-column}
 use Rattle.drawing.proofs.picture.draw_rows.Statement.{statement}
 use Rattle.drawing.proofs.picture.draw_rows.Tie as tie
@@ -43,11 +40,6 @@ loop-holds c =
       begin (width (start .args .w)) (height (start .args .w)) (start .args .first) (start .args .count) (omega arith) (start .pre .1),
       none-stored _ _ _,
     )
-
-in-order : (w : Words) (start : ℕ) (memory palette : List ℕ) (i r c : ℕ) → i / width w ≡ r → i % width w ≡ c
-    → colour w start memory palette r c ≡ colourInOrder w start memory palette i
-unfolding colourInOrder
-in-order w start memory palette i r c e e′ = sym (ap₂ (colour w start memory palette) e e′)
 
 turn : (c : tie.After-least Inv-loop μ-loop)
     → Turn (width (c .before .before .before .before .before .before .before .before .before .args .w)) (height (c .before .before .before .before .before .before .before .before .before .args .w)) (c .before .before .before .before .before .before .before .before .before .args .first) (c .before .before .before .before .before .before .before .before .before .args .count) (c .before .before .loop .done)

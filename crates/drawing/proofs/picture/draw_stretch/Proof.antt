@@ -34,8 +34,8 @@ passed c = sym (c .before .judge-picture .ensures) ∙ c .if1 .left
 inside : (c : tie.Else2) → c .before .before .before .before .before .before .before .args .first + c .before .before .before .before .before .before .before .args .count ≤ pixels (c .before .before .before .before .before .before .before .args .w)
 inside c = rw (c .before .pixels-of .ensures .0) at (c .if2 .left)
 
-draw-rows-requires : tie.Need-draw-rows-requires
-draw-rows-requires c κs =
+draw-numbers-requires : tie.Need-draw-numbers-requires
+draw-numbers-requires c κs =
     let l = lent-with-room _ _ _ _ _ _ (passed (c .before .before .before)) in
     (l .0, inside (c .before), l .1)
 
@@ -44,7 +44,7 @@ unfolding drawStretch judgeStretch judgeDrawing stretchOutside
 returns-3 c =
     leaves-written _ _ _ _
     (sym (ends _ _ _ (front-passes _ _ _ tt (c .before .before .before .before .before .before .before .judge-picture .ensures) (c .before .before .before .before .before .before .if1 .left)) (le-ltb _ _ (inside (c .before .before .before .before)))))
-    (c .before .before .draw-rows .ensures)
+    (c .before .before .draw-numbers .ensures)
 
 pub draw-stretch-spec : {M : Type 1} → statement M
 draw-stretch-spec =
@@ -56,6 +56,6 @@ draw-stretch-spec =
     (λ c. search needs)
     (λ c. search needs)
     returns-2
-    draw-rows-requires
+    draw-numbers-requires
     (λ c. search needs)
     returns-3)
