@@ -29,7 +29,7 @@ use Rattle.pixels.specs.Pixel.{shown}
 use Rattle.drawing.specs.Colour.{storedPixel, rowColour, colour}
 use Rattle.drawing.specs.Drawing.{drawRow, drawPicture, colourInOrder, judgeRow, judgePicture, judgeDrawing}
 use Rattle.drawing.specs.Drawing.{videoOff, paletteWrong, tooShort, rowOutside}
-use Rattle.drawing.specs.Memory.{judgeMemory, outsideMemory, wordOutside, rowAddress, firstWord}
+use Rattle.memory.specs.Memory.{judgeMemory, outsideMemory, wordOutside, rowAddress, firstWord}
 
 -- ---- rows
 

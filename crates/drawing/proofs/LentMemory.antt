@@ -22,9 +22,9 @@ use Rattle.registers.specs.declared.Words.{Words}
 use Rattle.drawing.specs.Colour.{rowColour, colour}
 use Rattle.drawing.specs.Core.{Legal, InRow, Lent}
 use Rattle.drawing.specs.Drawing.{videoOff, paletteWrong, tooShort, judgeDrawing, colourInOrder}
-use Rattle.drawing.specs.Memory.{rowAddress, rowWords, outsideMemory, memoryCases, judgeMemory, firstWord}
+use Rattle.memory.specs.Memory.{rowAddress, rowWords, outsideMemory, memoryCases, judgeMemory, firstWord}
 use Rattle.drawing.proofs.Formats.{legal-format}
-use Rattle.drawing.proofs.Window.{rows-rise, row-at-word, beforeWindow, pastWindow, closed-form, start-at-word, start-before}
+use Rattle.memory.proofs.Window.{rows-rise, row-at-word, beforeWindow, pastWindow, closed-form, start-at-word, start-before}
 
 -- ---- the memory
 

@@ -4,4 +4,3 @@ pub mod Parts
 pub mod Pixels
 pub mod Rows
 pub mod Touched
-pub mod Window

@@ -13,7 +13,7 @@ use Rattle.pixels.specs.Pixel.{indexed, shown}
 use Rattle.pixels.specs.declared.format.Format.{Format}
 use Rattle.registers.specs.declared.Words.{Words}
 use Rattle.drawing.specs.Colour.{storedPixel, rowColour, colour}
-use Rattle.drawing.specs.Memory.{firstWord}
+use Rattle.memory.specs.Memory.{firstWord}
 
 -- the place of the word that holds a pixel
 abbrev pub wordOf : Words → ℕ → ℕ → ℕ → ℕ

@@ -9,7 +9,7 @@ use Rattle.pixels.specs.Order.{inOrder, pixelBits}
 use Rattle.pixels.specs.Pixel.{indexed, shown}
 use Rattle.pixels.specs.declared.format.Format.{Format}
 use Rattle.registers.specs.declared.Words.{Words}
-use Rattle.drawing.specs.Memory.{firstWord}
+use Rattle.memory.specs.Memory.{firstWord}
 
 -- the stored bits of pixel c of a row that begins with the memory's word `base`: a word holds 32 / s pixels
 unfoldable pub storedPixel : ℕ → Bool → Bool → List ℕ → ℕ → ℕ → ℕ

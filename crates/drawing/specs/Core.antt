@@ -8,7 +8,7 @@ use Rattle.panel.specs.Geometry.{outsideModes, storedBits}
 use Rattle.pixels.specs.Pixel.{indexed}
 use Rattle.pixels.specs.declared.format.Format.{Format}
 use Rattle.registers.specs.declared.Words.{Words}
-use Rattle.drawing.specs.Memory.{judgeMemory}
+use Rattle.memory.specs.Memory.{judgeMemory}
 
 -- a format that 1 to 7 let pass
 pub record Legal (f : Format) : Type 0 where

@@ -12,7 +12,7 @@ use Rattle.panel.specs.Geometry.{width, height}
 use Rattle.registers.specs.Fields.{envid}
 use Rattle.registers.specs.declared.Words.{Words}
 use Rattle.drawing.specs.Colour.{colour}
-use Rattle.drawing.specs.Memory.{memoryCases}
+use Rattle.memory.specs.Memory.{memoryCases}
 use Rattle.drawing.specs.declared.pixel.Drawn.{Drawn}
 use Rattle.drawing.specs.declared.pixel.Drawn.the-variants.{Colour, Refused}
 

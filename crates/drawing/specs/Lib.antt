@@ -1,4 +1,3 @@
-pub mod Memory
 pub mod Colour
 pub mod Drawing
 pub mod Core

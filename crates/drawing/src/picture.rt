@@ -10,7 +10,7 @@ ghost use Rattle.drawing.specs.Drawing.{pixels, tooShort, judgeDrawing, 
 use super::columns::draw_columns;
 use super::columns::least;
 use super::columns::pixel_at;
-use super::memory::first_word;
+use super::place::first_word;
 use super::refusals::judge_drawing;
 use super::table::colour_table;
 use panel::geometry::height;

@@ -2,7 +2,7 @@
 ghost use mathlib.Core.Path.{_≡_};
 ghost use Rattle.drawing.specs.Drawing.{drawn, drawPixel};
 use super::columns::pixel_at;
-use super::memory::first_word;
+use super::place::first_word;
 use super::refusals::judge_drawing;
 use panel::geometry::height;
 use panel::geometry::width;

@@ -1,7 +1,7 @@
 // What every drawing is judged by.
 ghost use mathlib.Core.Path.{_≡_};
 ghost use Rattle.drawing.specs.Drawing.{judgeDrawing};
-use super::memory::judge_memory;
+use memory::judge_memory;
 use registers::Words;
 
 // 1 to 8, 9, 10, and 0 where none applies: so many words of memory and entries of the palette are lent, and a row or picture

@@ -8,7 +8,7 @@ ghost use Rattle.drawing.specs.Colour.{rowColour};
 ghost use Rattle.drawing.specs.Core.{Legal, InRow};
 ghost use Rattle.drawing.specs.Drawing.{drawRow};
 use super::columns::draw_columns;
-use super::memory::first_word;
+use super::place::first_word;
 use super::refusals::judge_drawing;
 use super::table::colour_table;
 use panel::geometry::height;

@@ -4,11 +4,11 @@
 // is changed.
 ghost use mathlib.Core.Path.{_≡_};
 ghost use Rattle.laws.specs.Answers.{leaves};
-ghost use Rattle.drawing.specs.Memory.{check};
+ghost use Rattle.memory.specs.Memory.{check};
 ghost use Rattle.lcd.specs.Calls.{putCounts, frameCounts, drawRow, drawPicture};
-use drawing::memory::check;
 use drawing::picture::draw_picture;
 use drawing::row::draw_row;
+use memory::check;
 use panel::refusals::accept;
 use panel::timing::frame_clocks;
 use panel::timing::frame_millihertz;

@@ -2,7 +2,7 @@
 use mathlib.Core.Path.{sym, _∙_}
 use borrow.Author.Tests.{eq-eqb, ne-eqb}
 use Rattle.laws.specs.Cases.{front-refuses, front-passes, skips, stops, ends}
-use Rattle.drawing.specs.Memory.{judgeMemory}
+use Rattle.memory.specs.Memory.{judgeMemory}
 use Rattle.drawing.specs.Drawing.{videoOff, paletteWrong, judgeDrawing}
 use Rattle.drawing.proofs.refusals.judge_drawing.Statement.{statement}
 use Rattle.drawing.proofs.refusals.judge_drawing.Tie as tie

@@ -1,11 +1,11 @@
--- `drawing::memory::outside_memory` meets its contract: the closed form of refusal 8. Assumes nothing.
+-- `memory::outside_memory` meets its contract: the closed form of refusal 8. Assumes nothing.
 use Prim.Native.Nat.{_-_}
 use native.Mathlib.Omega.{arith}
 use borrow.Author.Needs.{needs}
 use Rattle.panel.proofs.Accepted.{accepted-words}
-use Rattle.drawing.proofs.Window.{row-address-le, outside-early, outside-late, start-before, rows-rise}
-use Rattle.drawing.proofs.memory.outside_memory.Statement.{statement}
-use Rattle.drawing.proofs.memory.outside_memory.Tie as tie
+use Rattle.memory.proofs.Window.{row-address-le, outside-early, outside-late, start-before, rows-rise}
+use Rattle.memory.proofs.outside_memory.Statement.{statement}
+use Rattle.memory.proofs.outside_memory.Tie as tie
 
 add-end : tie.Need-add-end
 add-end c =

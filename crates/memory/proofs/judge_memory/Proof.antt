@@ -1,11 +1,11 @@
--- `drawing::memory::judge_memory` meets its contract: 1 to 7, and then 8. Assumes nothing.
+-- `memory::judge_memory` meets its contract: 1 to 7, and then 8. Assumes nothing.
 use mathlib.Core.Path.{sym, _∙_}
 use borrow.Author.Needs.{needs}
 use Rattle.laws.specs.Cases.{front-refuses, front-passes, stops, ends}
 use Rattle.panel.specs.Refusals.{judge}
-use Rattle.drawing.specs.Memory.{judgeMemory}
-use Rattle.drawing.proofs.memory.judge_memory.Statement.{statement}
-use Rattle.drawing.proofs.memory.judge_memory.Tie as tie
+use Rattle.memory.specs.Memory.{judgeMemory}
+use Rattle.memory.proofs.judge_memory.Statement.{statement}
+use Rattle.memory.proofs.judge_memory.Tie as tie
 
 returns : tie.Need-returns
 unfolding judgeMemory judge

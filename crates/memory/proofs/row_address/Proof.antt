@@ -1,11 +1,11 @@
--- `drawing::memory::row_address` meets its contract. Assumes nothing.
+-- `memory::row_address` meets its contract. Assumes nothing.
 use Prim.Native.Nat.{_+_, _*_, _^_, _≤_}
 use native.Mathlib.Omega.{arith}
 use borrow.Author.Needs.{needs}
 use Rattle.panel.proofs.Bounds.{row-offset-le}
-use Rattle.drawing.specs.Memory.{rowAddress}
-use Rattle.drawing.proofs.memory.row_address.Statement.{statement}
-use Rattle.drawing.proofs.memory.row_address.Tie as tie
+use Rattle.memory.specs.Memory.{rowAddress}
+use Rattle.memory.proofs.row_address.Statement.{statement}
+use Rattle.memory.proofs.row_address.Tie as tie
 
 -- no row of 32 bits comes near the end of 64
 offset-le : (c : tie.After-row-offset) → c .row-offset .result ≤ 2 ^ 21 + 4294967295 * 4094

@@ -1,13 +1,13 @@
--- `drawing::memory::check` meets its contract. Assumes nothing.
+-- `memory::check` meets its contract. Assumes nothing.
 use mathlib.Core.Path.{sym, ap, _∙_}
 use borrow.Author.Needs.{needs}
 use denote.Ref.{now}
 use lib.ListN.{length}
 use Rattle.laws.specs.Answers.{judges-on, passes-number}
 use Rattle.registers.specs.Loading.{load, loaded}
-use Rattle.drawing.specs.Memory.{check, judgeMemory}
-use Rattle.drawing.proofs.memory.check.Statement.{statement}
-use Rattle.drawing.proofs.memory.check.Tie as tie
+use Rattle.memory.specs.Memory.{check, judgeMemory}
+use Rattle.memory.proofs.check.Statement.{statement}
+use Rattle.memory.proofs.check.Tie as tie
 
 returns : tie.Need-returns
 unfolding check

@@ -16,7 +16,7 @@ use Rattle.panel.proofs.Bounds.{row-offset-le}
 use Rattle.panel.proofs.Modes.{stored-bits-pos}
 use Rattle.registers.specs.Fields.{pagewidth, bppmode}
 use Rattle.registers.specs.declared.Words.{Words}
-use Rattle.drawing.specs.Memory.{rowAddress, rowWords, wordOutside, outsideMemory}
+use Rattle.memory.specs.Memory.{rowAddress, rowWords, wordOutside, outsideMemory}
 
 -- ---- rows
 

@@ -1,10 +1,7 @@
-// The lent video memory: where a row lies in it, refusal 8, and the check.
+// The lent video memory (document 01, "Where a pixel lies", "Numbers of refusal"): where a row lies in it, refusal 8, and the check.
 ghost use mathlib.Core.Path.{_≡_};
-ghost use Prim.Native.Nat.{_+_, _-_, _*_, _/_, _%_, _≤_};
-ghost use Rattle.registers.specs.Fields.{pagewidth};
-ghost use Rattle.panel.specs.Geometry.{height};
 ghost use Rattle.panel.specs.Refusals.{judge};
-ghost use Rattle.drawing.specs.Memory.{rowAddress, outsideMemory, judgeMemory, check, firstWord};
+ghost use Rattle.memory.specs.Memory.{rowAddress, outsideMemory, judgeMemory, check};
 use panel::geometry::height;
 use panel::geometry::row_offset;
 use panel::refusals::judge;
@@ -55,12 +52,4 @@ pub fn check(words: &[u32], window_start: u32, video: &[u32]) -> u32
         Loaded::Nine(w) => judge_memory(w, window_start, video.len()),
         Loaded::Refused(n) => n,
     }
-}
-
-// The place of a row's first word among the lent words.
-pub(crate) fn first_word(w: Words, window_start: u32, row: u32) -> usize
-    requires { ⌜ «window_start» ≤ rowAddress w row ⌝ }
-    ensures { λ r. ⌜ r ≡ firstWord w «window_start» row ⌝ }
-{
-    ((row_address(w, row) - window_start as u64) / 4) as usize
 }
