@@ -73,7 +73,7 @@ fn draw_rows(
     }
 }
 
-// The same for few pixels: one by one, without the table of colours.
+// The same for few pixels: one by one, without the table of colours. So few that a division each costs less than the table.
 fn draw_few(
     w: Words,
     window_start: u32,

@@ -2,7 +2,6 @@
 -- short of nine words" stands before all. Each call returns a number, 0 where it is done. Assumes nothing.
 use mathlib.Core.List.{List, [], _∷_}
 use Prim.Native.Nat.{ℕ}
-use lib.Dec.{ltb}
 use lib.ListN.{length, getD}
 use Rattle.laws.specs.Answers.{Outcome, outcome, outcomeOn}
 use Rattle.laws.specs.Cases.{_when_, lowest}
@@ -21,7 +20,7 @@ numbers w hclk = frameClocks (timing w) ∷ frameTicks w ∷ frameRate w hclk �
 -- 10: "another lent slice too short for its call": fewer than three entries for the counts
 unfoldable pub putCounts : Words → ℕ → List ℕ → Outcome
 putCounts w hclk out =
-    outcome (lowest (10 when ltb (length out) 3 ∷ [])) out (stores (λ i. getD (numbers w hclk) i 0) 0 3 out)
+    outcome (lowest (10 when Drawing.tooShort (length out) 3 ∷ [])) out (stores (λ i. getD (numbers w hclk) i 0) 0 3 out)
 
 -- counts and rate, "judged by 1 to 7"
 unfoldable pub frameCounts : List ℕ → ℕ → List ℕ → Outcome

@@ -1,10 +1,9 @@
 -- `lcd::lcd_counts` meets its contract. Assumes nothing.
 use mathlib.Core.Path.{sym, ap, _∙_}
 use borrow.Author.Needs.{needs}
-use denote.Ref.{now}
 use Rattle.laws.specs.Answers.{writes-on, leaves-on}
 use Rattle.panel.specs.Refusals.{accept}
-use Rattle.lcd.specs.Calls.{putCounts, frameCounts}
+use Rattle.lcd.specs.Calls.{frameCounts}
 use Rattle.registers.specs.Loading.{loaded}
 use Rattle.lcd.proofs.lcd_counts.Statement.{statement}
 use Rattle.lcd.proofs.lcd_counts.Tie as tie
@@ -12,17 +11,15 @@ use Rattle.lcd.proofs.lcd_counts.Tie as tie
 returns : tie.Need-returns
 unfolding frameCounts
 returns c =
-    let a = c .before .before .before .before .before .before .before .before .before .before .args in
     let nine = c .before .before .before .before .before .w .given in
-    writes-on (accept (now (a .words))) _ (λ w. putCounts w (a .hclk) (now (a .counts))) (nine .0 .0) _
+    writes-on _ _ _ (nine .0 .0) _
     (sym (ap loaded (nine .1)) ∙ c .before .before .before .before .before .before .before .accept .ensures) (c .before .before .put-counts .ensures)
 
 returns-2 : tie.Need-returns-2
 unfolding frameCounts
 returns-2 c =
-    let a = c .before .before .before .before .before .before .args in
     let n = c .before .n .given in
-    leaves-on (accept (now (a .words))) _ (λ w. putCounts w (a .hclk) (now (a .counts))) (n .0 .0)
+    leaves-on _ _ _ (n .0 .0)
     (sym (ap loaded (n .1)) ∙ c .before .before .before .accept .ensures)
 
 pub lcd-counts-spec : {M : Type 1} → statement M

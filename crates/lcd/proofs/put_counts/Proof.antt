@@ -7,12 +7,13 @@ use lib.ListN.{length-set}
 use Rattle.laws.specs.Answers.{leaves-as-it-was, leaves-written}
 use Rattle.laws.specs.Cases.{lowest-of-ascending-is-first, stops, ends}
 use Rattle.laws.specs.Storing.{stores}
+use Rattle.drawing.specs.Drawing.{tooShort}
 use Rattle.lcd.specs.Calls.{putCounts}
 use Rattle.lcd.proofs.put_counts.Statement.{statement}
 use Rattle.lcd.proofs.put_counts.Tie as tie
 
 returns : tie.Need-returns
-unfolding putCounts
+unfolding putCounts tooShort
 returns c =
     leaves-as-it-was 10 _ _ _ (stops _ _ _ _ (lowest-of-ascending-is-first 0 _ tt) (lt-ltb _ _ (c .if1 .taken))) (λ z. omega arith)
 
@@ -20,7 +21,7 @@ slice-write-counts-2 : tie.Need-slice-write-counts-2
 slice-write-counts-2 c = simp length-set (omega arith)
 
 returns-2 : tie.Need-returns-2
-unfolding putCounts stores
+unfolding putCounts tooShort stores
 returns-2 c =
     leaves-written _ _ _ _ (sym (ends _ _ _ (lowest-of-ascending-is-first 0 _ tt) (le-ltb _ _ (c .before .before .before .if1 .left))))
     (rw (c .before .before .frame-clocks .ensures, c .before .frame-ticks .ensures, c .frame-millihertz .ensures))

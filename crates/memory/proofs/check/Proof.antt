@@ -1,33 +1,25 @@
 -- `memory::check` meets its contract. Assumes nothing.
 use mathlib.Core.Path.{sym, ap, _∙_}
 use borrow.Author.Needs.{needs}
-use denote.Ref.{now}
-use lib.ListN.{length}
 use Rattle.laws.specs.Answers.{judges-on, passes-number}
 use Rattle.registers.specs.Loading.{load, loaded}
-use Rattle.memory.specs.Memory.{check, judgeMemory}
+use Rattle.memory.specs.Memory.{check}
 use Rattle.memory.proofs.check.Statement.{statement}
 use Rattle.memory.proofs.check.Tie as tie
 
 returns : tie.Need-returns
 unfolding check
 returns c =
-    let start = c .before .before .before .before .before .before .before in
     let nine = c .before .before .w .given in
-    judges-on (load (now (start .args .words)))
-    (λ w. judgeMemory w (start .args .window-start) (length (now (start .args .video))))
-    (nine .0 .0) _
+    judges-on _ _ (nine .0 .0) _
     (sym (ap loaded (nine .1)) ∙ c .before .before .before .before .load .ensures)
     (c .judge-memory .ensures)
 
 returns-2 : tie.Need-returns-2
 unfolding check
 returns-2 c =
-    let start = c .before .before .before .before .before .before in
     let n = c .before .n .given in
-    passes-number (load (now (start .args .words)))
-    (λ w. judgeMemory w (start .args .window-start) (length (now (start .args .video))))
-    (n .0 .0)
+    passes-number _ _ (n .0 .0)
     (sym (ap loaded (n .1)) ∙ c .before .before .before .load .ensures)
 
 pub check-spec : {M : Type 1} → statement M
