@@ -1,3 +1,4 @@
+pub mod ColourLines
 pub mod Formats
 pub mod LentMemory
 pub mod Parts

@@ -4,11 +4,11 @@ use mathlib.Core.Path.{_≡_, refl, sym, ap, _∙_}
 use mathlib.Core.Bool.{Bool, true, false, cond, _&&_}
 use mathlib.Core.List.{List, [], _∷_, _++_}
 use mathlib.Core.Logic.{_⊎_, inl, inr, ⊎-elim}
-use Prim.Native.Nat.{ℕ, zero, suc, min, _<_}
+use Prim.Native.Nat.{ℕ, zero, suc, min, _<_, _≤_}
 use native.Mathlib.Decide.{ℕ-discrete}
 use native.Mathlib.Nat.{lt-trans}
 use native.Mathlib.Omega.{arith}
-use lib.Dec.{ltb, ltb→lt, T}
+use lib.Dec.{leb, leb→le, ltb, ltb→lt, T}
 use Rattle.laws.specs.Booleans.{and-left, and-right, and-both}
 
 pub record Case : Type 0 where
@@ -175,3 +175,101 @@ both-pass cs ds t u e = (front, first-none 0 ds u (sym (front-passes (lowest cs)
         go : Dec (lowest cs ≡ 0) → lowest cs ≡ 0
         go (yes z) = z
         go (no ne) = absurd (ne (front-refuses (lowest cs) cs ds t refl ne ∙ e))
+
+-- ---- lists that do not rise together: each of several views has its own
+
+lower-min : (a b : ℕ) → 0 < a → 0 < b → lower a b ≡ min a b
+unfolding lower
+lower-min zero b h k = absurd (omega arith)
+lower-min (suc a) zero h k = absurd (omega arith)
+lower-min (suc a) (suc b) h k = refl
+
+lower-none : (a : ℕ) → lower a 0 ≡ a
+unfolding lower
+lower-none zero = refl
+lower-none (suc a) = refl
+
+lower-assoc : (a b c : ℕ) → lower (lower a b) c ≡ lower a (lower b c)
+unfolding lower
+lower-assoc zero b c = refl
+lower-assoc (suc a) zero c = refl
+lower-assoc (suc a) (suc b) zero = lower-none (min (suc a) (suc b))
+lower-assoc (suc a) (suc b) (suc c) =
+    lower-min (min (suc a) (suc b)) (suc c) (omega arith) (omega arith)
+    ∙ omega arith
+    ∙ sym (lower-min (suc a) (min (suc b) (suc c)) (omega arith) (omega arith))
+
+lower-zero : (a b : ℕ) → lower a b ≡ 0 → (a ≡ 0) × (b ≡ 0)
+unfolding lower
+lower-zero zero b e = (refl, e)
+lower-zero (suc a) zero e = absurd (omega arith)
+lower-zero (suc a) (suc b) e = absurd (omega arith)
+
+-- the lower of a number and itself
+pub lower-same : (a : ℕ) → lower a a ≡ a
+unfolding lower
+lower-same zero = refl
+lower-same (suc a) = omega arith
+
+-- the lowest number over two lists is the lower of their lowest
+pub lowest-joined : (cs ds : List Case) → lowest (cs ++ ds) ≡ lower (lowest cs) (lowest ds)
+unfolding lowest lower
+lowest-joined [] ds = refl
+lowest-joined (c ∷ cs) ds = go (c .holds) (lowest-joined cs ds)
+  where
+    go : (b : Bool) → lowest (cs ++ ds) ≡ lower (lowest cs) (lowest ds)
+        → cond b (lower (c .number) (lowest (cs ++ ds))) (lowest (cs ++ ds))
+        ≡ lower (cond b (lower (c .number) (lowest cs)) (lowest cs)) (lowest ds)
+    go true e = ap (lower (c .number)) e ∙ sym (lower-assoc (c .number) (lowest cs) (lowest ds))
+    go false e = e
+
+-- it is 0 exactly where both are
+pub joined-pass : (cs ds : List Case) → lowest (cs ++ ds) ≡ 0 → (lowest cs ≡ 0) × (lowest ds ≡ 0)
+joined-pass cs ds e = lower-zero (lowest cs) (lowest ds) (sym (lowest-joined cs ds) ∙ e)
+
+pub pass-joined : (cs ds : List Case) → lowest cs ≡ 0 → lowest ds ≡ 0 → lowest (cs ++ ds) ≡ 0
+unfolding lower
+pass-joined cs ds e e′ = lowest-joined cs ds ∙ rw (e, e′) refl
+
+-- the numbers are n at most
+abbrev pub upTo : ℕ → List Case → Bool
+upTo n [] = true
+upTo n (c ∷ cs) = leb (c .number) n && upTo n cs
+
+lower-le : (a b n : ℕ) → a ≤ n → b ≤ n → lower a b ≤ n
+unfolding lower
+lower-le zero b n h k = k
+lower-le (suc a) zero n h k = h
+lower-le (suc a) (suc b) n h k = omega arith
+
+lowest-up-to : (n : ℕ) (cs : List Case) → T (upTo n cs) → lowest cs ≤ n
+unfolding lowest
+lowest-up-to n [] t = omega arith
+lowest-up-to n (c ∷ cs) t = go (c .holds) (lowest-up-to n cs (and-right (leb (c .number) n) (upTo n cs) t))
+  where
+    go : (b : Bool) → lowest cs ≤ n → cond b (lower (c .number) (lowest cs)) (lowest cs) ≤ n
+    go true h = lower-le (c .number) (lowest cs) n (leb→le (c .number) n (and-left (leb (c .number) n) (upTo n cs) t)) h
+    go false h = h
+
+-- r, the lowest number of such a front, is the whole list's where some condition of the front holds and the rest rises from n
+pub several-refuse : (r n : ℕ) (cs ds : List Case) → T (upTo n cs) → T (ascending n ds) → r ≡ lowest cs → (r ≡ 0 → ⊥)
+    → r ≡ lowest (cs ++ ds)
+several-refuse r n cs ds u t e ne =
+    e ∙ sym (lower-keeps (lowest cs) (lowest ds) (omega (arith, some)) above) ∙ sym (lowest-joined cs ds)
+  where
+    some : lowest cs ≡ 0 → ⊥
+    some z = ne (e ∙ z)
+
+    above : (lowest ds ≡ 0) ⊎ (lowest cs < lowest ds)
+    above =
+        ⊎-elim (λ z. inl (lowest-of-ascending-is-first n ds t ∙ z))
+        (λ l. inr (omega (arith, lowest-up-to n cs u, lowest-of-ascending-is-first n ds t)))
+        (first-above n ds t)
+
+-- where none of it holds, the program looks on in the rest
+pub several-pass : (r n : ℕ) (cs ds : List Case) → T (ascending n ds) → r ≡ lowest cs → r ≡ 0 → lowest (cs ++ ds) ≡ first ds
+unfolding lower
+several-pass r n cs ds t e z =
+    lowest-joined cs ds
+    ∙ ap (λ (k : ℕ). lower k (lowest ds)) (sym e ∙ z)
+    ∙ lowest-of-ascending-is-first n ds t

@@ -1,0 +1,165 @@
+-- What an accepted step or run tells (document 01, "Numbers of refusal"): the next clock's view can be drawn from, the position lies
+-- in the frame, and the state one clock on is accepted too. Assumes nothing.
+use mathlib.Core.Bool.{Bool, true, false, not, cond, _||_}
+use mathlib.Core.List.{List, [], _∷_, _++_}
+use mathlib.Core.Path.{_≡_, refl, sym, ap, _∙_}
+use Prim.Native.Nat.{ℕ, _+_, _%_, _<_, _≤_}
+use native.Mathlib.Decide.{ℕ-discrete}
+use native.Mathlib.Nat.{mod-lt}
+use native.Mathlib.Omega.{arith}
+use borrow.Author.Tests.{leb-false, lt-leb, eq-eqb, ltb-false}
+use lib.Dec.{eqb, leb}
+use lib.ListN.{length}
+use Rattle.laws.specs.Answers.{judged, accepted}
+use Rattle.laws.specs.Booleans.{or-false, or-false-left, or-false-right}
+use Rattle.laws.specs.Cases.{Case, _when_, NoneHolds, lowest, lower, lowest-zero-none-holds, joined-pass, pass-joined}
+use Rattle.drawing.specs.Colour.{colour}
+use Rattle.drawing.specs.Drawing.{videoOff, paletteWrong, tooShort, rowOutside, columnOutside, drawingCases, judgePixel, drawPixel, judgeStretch, stretchOutside, pixels}
+use Rattle.memory.specs.Memory.{memoryCases}
+use Rattle.panel.specs.Geometry.{width, height}
+use Rattle.registers.specs.Fields.{lcdbank}
+use Rattle.registers.specs.declared.Words.{Words}
+use Rattle.scanout.specs.Refusals.{bankDiffers, pastFrame, viewCases, stateCases, judgeScan}
+use Rattle.scanout.specs.State.{withView, frameOf, shownWords, advance}
+use Rattle.scanout.specs.declared.state.State.{State}
+use Rattle.scanout.proofs.Views.{Alike, alike-with, shown-first, shown-later, shown-alike, shown-frame, some-frame}
+
+-- one condition, which does not hold
+none-of-one : (n : ℕ) (b : Bool) → b ≡ false → lowest (n when b ∷ []) ≡ 0
+unfolding lowest
+none-of-one n b f = rw f refl
+
+module _ (s : State) (lent entries : ℕ) (short : Bool) where
+  -- the conditions beside those of the views
+  abbrev rest : List Case
+  rest =
+      9 when videoOff (s .words)
+      ∷ 10 when (paletteWrong entries || short)
+      ∷ 13 when bankDiffers (s .words) (s .pending)
+      ∷ 15 when pastFrame s
+      ∷ []
+
+  pub record Passed : Type 0 where
+    pub current : lowest (memoryCases (s .words) (s .«window_start») lent) ≡ 0
+    pub pending : lowest (viewCases s (s .pending) lent) ≡ 0
+    pub on : videoOff (s .words) ≡ false
+    pub slices : paletteWrong entries || short ≡ false
+    pub bank : bankDiffers (s .words) (s .pending) ≡ false
+    pub inside : s .position < frameOf s
+
+  pub passed : judgeScan s lent entries short ≡ 0 → Passed
+  unfolding judgeScan pastFrame
+  passed e =
+      record {
+        current = views .0;
+        pending = views .1;
+        on = none .0;
+        slices = none .1 .0;
+        bank = none .1 .1 .0;
+        inside = leb-false (frameOf s) (s .position) (none .1 .1 .1 .0);
+      }
+    where
+      parts : (lowest (stateCases s lent) ≡ 0) × (lowest rest ≡ 0)
+      parts = joined-pass (stateCases s lent) rest e
+
+      views : (lowest (memoryCases (s .words) (s .«window_start») lent) ≡ 0) × (lowest (viewCases s (s .pending) lent) ≡ 0)
+      views = joined-pass (memoryCases (s .words) (s .«window_start») lent) (viewCases s (s .pending) lent) (parts .0)
+
+      none : NoneHolds rest
+      none = lowest-zero-none-holds 8 rest tt (parts .1)
+
+  pub judged-passed : Passed → judgeScan s lent entries short ≡ 0
+  unfolding judgeScan pastFrame lowest lower
+  judged-passed p =
+      pass-joined (stateCases s lent) rest
+      (pass-joined (memoryCases (s .words) (s .«window_start») lent) (viewCases s (s .pending) lent) (p .current) (p .pending))
+      (rw (p .on, p .slices, p .bank, lt-leb (frameOf s) (s .position) (p .inside)) refl)
+
+-- what a run is judged by covers what a step is judged by
+pub as-step : (s : State) (lent entries : ℕ) (short : Bool) → Passed s lent entries short → Passed s lent entries false
+as-step s lent entries short p =
+    record {
+      current = p .current;
+      pending = p .pending;
+      on = p .on;
+      slices = or-false (or-false-left (paletteWrong entries) short (p .slices)) refl;
+      bank = p .bank;
+      inside = p .inside;
+    }
+
+-- ---- the next clock's words
+
+pub alike-video : (w w′ : Words) → Alike w w′ → videoOff w ≡ videoOff w′
+unfolding videoOff
+alike-video w w′ a = ap videoOff a
+
+module _ (s : State) (lent entries : ℕ) (short : Bool) (p : Passed s lent entries short) where
+  pub shown-on : videoOff (shownWords s) ≡ false
+  shown-on = alike-video (shownWords s) (s .words) (shown-alike s) ∙ p .on
+
+  pub shown-in-memory : lowest (memoryCases (shownWords s) (s .«window_start») lent) ≡ 0
+  shown-in-memory = go (ℕ-discrete (s .position) 0)
+    where
+      at : Words → ℕ
+      at w = lowest (memoryCases w (s .«window_start») lent)
+
+      go : Dec (s .position ≡ 0) → at (shownWords s) ≡ 0
+      go (yes e) = ap at (shown-first s e) ∙ p .pending
+      go (no ne) = ap at (shown-later s ne) ∙ p .current
+
+  pub palette-passes : paletteWrong entries ≡ false
+  palette-passes = or-false-left (paletteWrong entries) short (p .slices)
+
+  pub short-passes : short ≡ false
+  short-passes = or-false-right (paletteWrong entries) short (p .slices)
+
+  -- what a drawing from the next clock's words is judged by
+  pub drawing-passes : (b : Bool) → b ≡ false → lowest (drawingCases (shownWords s) (s .«window_start») lent entries b) ≡ 0
+  unfolding lowest lower
+  drawing-passes b f =
+      pass-joined (memoryCases (shownWords s) (s .«window_start») lent)
+      (9 when videoOff (shownWords s) ∷ 10 when (paletteWrong entries || b) ∷ []) shown-in-memory
+      (rw (shown-on, palette-passes, f) refl)
+
+  -- one clock on, nothing of this has changed
+  pub advance-passes : Passed (advance s) lent entries short
+  unfolding advance bankDiffers
+  advance-passes =
+      record {
+        current = shown-in-memory;
+        pending =
+            ap (λ (w : Words). lowest (memoryCases w (s .«window_start») lent))
+            (alike-with (shownWords s) (s .words) (shown-alike s) (s .pending))
+            ∙ p .pending;
+        on = shown-on;
+        slices = p .slices;
+        bank = go (ℕ-discrete (s .position) 0);
+        inside = rw (shown-frame s) (mod-lt (s .position + 1) (some-frame s));
+      }
+    where
+      bank-of : Words → Bool
+      bank-of w = not (eqb (lcdbank (withView w (s .pending))) (lcdbank w))
+
+      go : Dec (s .position ≡ 0) → bank-of (shownWords s) ≡ false
+      go (yes e) =
+          ap bank-of (shown-first s e)
+          ∙ ap not (eq-eqb (lcdbank (withView (s .words) (s .pending))) (lcdbank (withView (s .words) (s .pending))) refl)
+      go (no ne) = ap bank-of (shown-later s ne) ∙ p .bank
+
+-- ---- drawing from it
+
+module _ (s : State) (memory palette : List ℕ) (short : Bool) (p : Passed s (length memory) (length palette) short) where
+  -- drawing one pixel gives its colour
+  pub pixel-drawn : (r c : ℕ) → r < height (s .words) → c < width (s .words)
+      → drawPixel (shownWords s) (s .«window_start») memory palette r c
+      ≡ accepted (colour (shownWords s) (s .«window_start») memory palette r c)
+  unfolding drawPixel judgePixel judged rowOutside columnOutside
+  pixel-drawn r c h k =
+      ap (λ (n : ℕ). judged n (colour (shownWords s) (s .«window_start») memory palette r c))
+      (pass-joined (drawingCases (shownWords s) (s .«window_start») (length memory) (length palette) false)
+      (11 when (rowOutside (shownWords s) r || columnOutside (shownWords s) c) ∷ [])
+      (drawing-passes s (length memory) (length palette) short p false refl)
+      (none-of-one 11 (rowOutside (shownWords s) r || columnOutside (shownWords s) c)
+      (or-false
+      (ap (λ (w : Words). leb (height w) r) (shown-alike s) ∙ lt-leb (height (s .words)) r h)
+      (ap (λ (w : Words). leb (width w) c) (shown-alike s) ∙ lt-leb (width (s .words)) c k))))

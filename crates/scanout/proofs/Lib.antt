@@ -1,0 +1,11 @@
+pub mod Views
+pub mod Acceptance
+pub mod Stretch
+pub mod Effects
+pub mod Fronts
+pub mod Schedule
+pub mod PixelTimes
+pub mod Steps
+pub mod Runs
+pub mod Pictures
+pub mod FrameByFrame

@@ -1,0 +1,168 @@
+-- What the accepted steps of a list show (document 01, "Clocks and lines"). Assumes nothing.
+use mathlib.Core.Bool.{Bool, true, false, true≢false}
+use mathlib.Core.List.{List}
+use mathlib.Core.Path.{_≡_, refl, sym, ap, ap₂, _∙_}
+use Prim.Native.Nat.{ℕ, _+_, _*_, _/_, _%_, _^_, _<_, _≤_}
+use native.Mathlib.Nat.{div-add-mod', div-mul-le-self}
+use native.Mathlib.Omega.{arith}
+use lib.Dec.{ltb}
+use lib.ListN.{length}
+use Rattle.laws.specs.Answers.{Answer, accepted}
+use Rattle.drawing.proofs.ColourLines.{colour-lines}
+use Rattle.drawing.specs.Colour.{colour}
+use Rattle.drawing.specs.Drawing.{drawPixel}
+use Rattle.panel.specs.Geometry.{width, height}
+use Rattle.panel.specs.Timing.{Timing, timing, lineClocks}
+use Rattle.registers.specs.Fields.{vspw, hspw, invvframe, invvline, invvden, invvd}
+use Rattle.registers.specs.declared.Words.{Words}
+use Rattle.signals.proofs.Pins.{vsync-in-sync-lines, hsync-in-sync-clocks, vden-at-pixels, colour-read}
+use Rattle.signals.proofs.Positions.{Shows, pixel, blank, shows, at-shows}
+use Rattle.signals.specs.Clock.{showsPixel, clockAt, vsyncActive, hsyncActive, vdenActive, beforeInvvd}
+use Rattle.signals.specs.Pixel.{spotAt}
+use Rattle.signals.specs.declared.clock.Clock.{Clock}
+use Rattle.signals.specs.declared.pixel.Spot.{Spot}
+use Rattle.signals.specs.declared.pixel.Spot.the-variants.{Pixel, Blank}
+use Rattle.scanout.specs.Calls.{Lent, spotColour, nextColour, step}
+use Rattle.scanout.specs.FrameByFrame.{PixelAt, StepIn, frameColour, pixelColour}
+use Rattle.scanout.specs.Lists.{Call, aStep, orElse, Calls, _then_, Begins, final, clocks, taken, frameView}
+use Rattle.scanout.specs.State.{withView, viewOf, frameOf, shownWords}
+use Rattle.scanout.specs.declared.state.State.{State}
+use Rattle.scanout.proofs.Acceptance.{Passed, pixel-drawn}
+use Rattle.scanout.proofs.Effects.{step-passed, step-clock}
+use Rattle.scanout.proofs.Fronts.{taken-more, frame-view-in-front}
+use Rattle.scanout.proofs.PixelTimes.{its-frame, pixel-position, position-pixel}
+use Rattle.scanout.proofs.Schedule.{Schedule, shows-frame-view}
+use Rattle.scanout.proofs.Views.{Alike, alike-trans, shown-alike}
+
+-- ---- the view of a call's clocks, in the whole list
+
+module _ (s : State) (calls before : Calls) (c : Call) (b : Begins (before then c) calls) (i : Schedule s before) where
+  pub shown-in-list : 0 < clocks (final s before) c
+      → shownWords (final s before) ≡ withView (s .words) (frameView s calls (taken s before / frameOf s))
+  shown-in-list some =
+      shows-frame-view s before c i some
+      ∙ ap (withView (s .words))
+      (sym (frame-view-in-front s (before then c) calls (taken s before / frameOf s) b
+      (omega (arith, taken-more s before c, div-mul-le-self (taken s before) (frameOf s)))))
+
+  -- drawing a pixel from the words in force is drawing it under the frame's view
+  pub frame-colour : (l : Lent) (short : Bool) → Passed (final s before) (length (l .memory)) (length (l .palette)) short
+      → 0 < clocks (final s before) c → (r k : ℕ) → r < height (s .words) → k < width (s .words)
+      → frameColour s calls (taken s before / frameOf s) l r k
+      ≡ accepted (colour (shownWords (final s before)) (final s before .«window_start») (l .memory) (l .palette) r k)
+  frame-colour l short p some r k h h′ =
+      ap₂ (λ (w : Words) (window : ℕ). drawPixel w window (l .memory) (l .palette) r k) (sym (shown-in-list some)) (sym (i .window))
+      ∙ pixel-drawn (final s before) (l .memory) (l .palette) short p r k
+      (rw (ap height (i .alike)) h) (rw (ap width (i .alike)) h′)
+
+-- ---- steps
+
+next-colour-lines : (s : State) (l : Lent) → nextColour s l < 2 ^ 24
+unfolding nextColour spotColour
+next-colour-lines s l = go (spotAt (timing (s .words)) (s .position))
+  where
+    go : (x : Spot) → spotColour (shownWords s) (s .«window_start») l x < 2 ^ 24
+    go (Pixel r c) = colour-lines (shownWords s) (s .«window_start») (l .memory) (l .palette) r c
+    go Blank = omega arith
+
+module _ (s : State) (calls : Calls) (q : StepIn s calls) (i : Schedule s (q .before)) where
+  -- the words in force differ from the first ones in the view only
+  alike : Alike (shownWords (final s (q .before))) (s .words)
+  alike =
+      alike-trans (shownWords (final s (q .before))) (final s (q .before) .words) (s .words) (shown-alike (final s (q .before)))
+      (i .alike)
+
+  same-timing : timing (shownWords (final s (q .before))) ≡ timing (s .words)
+  same-timing = ap timing alike
+
+  -- so whoever reads the pins by the first words reads them right
+  reads : {A : Type 0} (f : Words → Clock → A) → ((w : Words) (v : _) (k : Clock) → f (withView w v) k ≡ f w k)
+      → f (s .words) (q .shown .clock)
+      ≡ f (shownWords (final s (q .before)))
+      (clockAt (shownWords (final s (q .before))) (final s (q .before) .position) (nextColour (final s (q .before)) (q .lent)))
+  reads f same =
+      ap (f (s .words)) (step-clock (final s (q .before)) (q .lent) (q .shown) (q .done))
+      ∙ sym (same (s .words) (viewOf (shownWords (final s (q .before)))) clock)
+      ∙ ap (λ (w : Words). f w clock) (sym alike)
+    where
+      clock : Clock
+      clock = clockAt (shownWords (final s (q .before))) (final s (q .before) .position) (nextColour (final s (q .before)) (q .lent))
+
+  vden : vdenActive (s .words) (q .shown .clock) ≡ showsPixel (spotAt (timing (s .words)) (taken s (q .before) % frameOf s))
+  vden =
+      reads vdenActive (λ w v k. refl)
+      ∙ vden-at-pixels (shownWords (final s (q .before))) (final s (q .before) .position) (nextColour (final s (q .before)) (q .lent))
+      ∙ ap₂ (λ (t : Timing) (p : ℕ). showsPixel (spotAt t p)) same-timing (i .position)
+
+  -- what the clock shows, by its number in the list
+  shown-colour : beforeInvvd (s .words) (q .shown .clock)
+      ≡ spotColour (shownWords (final s (q .before))) (final s (q .before) .«window_start») (q .lent)
+      (spotAt (timing (s .words)) (taken s (q .before) % frameOf s))
+  unfolding beforeInvvd nextColour
+  shown-colour =
+      reads beforeInvvd (λ w v k. refl)
+      ∙ colour-read (shownWords (final s (q .before))) (final s (q .before) .position)
+      (nextColour (final s (q .before)) (q .lent)) (next-colour-lines (final s (q .before)) (q .lent))
+      ∙ ap₂ (λ (t : Timing) (p : ℕ). spotColour (shownWords (final s (q .before))) (final s (q .before) .«window_start») (q .lent) (spotAt t p))
+      (ap timing (i .alike)) (i .position)
+
+  pub step-counts : clocks (final s (q .before)) (aStep (q .lent)) ≡ 1
+  unfolding clocks orElse
+  step-counts = ap (orElse (λ k. 1) 0) (q .done)
+
+  pub step-shows : (x : PixelAt s (taken s (q .before)))
+      → (vdenActive (s .words) (q .shown .clock) ≡ true)
+      × (accepted (beforeInvvd (s .words) (q .shown .clock)) ≡ pixelColour s calls (q .lent) (taken s (q .before)) x)
+  unfolding showsPixel spotColour
+  step-shows x = (
+    vden ∙ ap showsPixel shows-it,
+    ap accepted
+        (shown-colour
+        ∙ ap (spotColour (shownWords (final s (q .before))) (final s (q .before) .«window_start») (q .lent)) shows-it)
+        ∙ sym (frame-colour s calls (q .before) (aStep (q .lent)) (q .inside) i (q .lent) false
+        (step-passed (final s (q .before)) (q .lent) (q .shown) (q .done)) (omega (arith, step-counts)) (x .row) (x .column)
+        (x .on-panel .row) (x .on-panel .column))
+        ∙ ap (λ (f : ℕ). frameColour s calls f (q .lent) (x .row) (x .column)) (its-frame s (taken s (q .before)) x),
+  )
+    where
+      shows-it : spotAt (timing (s .words)) (taken s (q .before) % frameOf s) ≡ Pixel (x .row) (x .column)
+      shows-it =
+          at-shows (timing (s .words)) (taken s (q .before) % frameOf s) (x .row) (x .column)
+          (pixel-position s (taken s (q .before)) x)
+
+  pub step-blank : (PixelAt s (taken s (q .before)) → ⊥)
+      → (vdenActive (s .words) (q .shown .clock) ≡ false) × (beforeInvvd (s .words) (q .shown .clock) ≡ 0)
+  unfolding showsPixel spotColour
+  step-blank none = go (shows (timing (s .words)) (taken s (q .before) % frameOf s))
+    where
+      go : Shows (timing (s .words)) (taken s (q .before) % frameOf s)
+          → (vdenActive (s .words) (q .shown .clock) ≡ false) × (beforeInvvd (s .words) (q .shown .clock) ≡ 0)
+      go (pixel r c a e) = absurd (none (position-pixel s (taken s (q .before)) r c a))
+      go (blank other e) = (
+        vden ∙ ap showsPixel e,
+        shown-colour ∙ ap (spotColour (shownWords (final s (q .before))) (final s (q .before) .«window_start») (q .lent)) e,
+      )
+
+  pub step-active : vdenActive (s .words) (q .shown .clock) ≡ true → PixelAt s (taken s (q .before))
+  unfolding showsPixel
+  step-active active = go (shows (timing (s .words)) (taken s (q .before) % frameOf s))
+    where
+      go : Shows (timing (s .words)) (taken s (q .before) % frameOf s) → PixelAt s (taken s (q .before))
+      go (pixel r c a e) = position-pixel s (taken s (q .before)) r c a
+      go (blank other e) = absurd (true≢false (sym active ∙ vden ∙ ap showsPixel e))
+
+  pub step-vsync : vsyncActive (s .words) (q .shown .clock)
+      ≡ ltb (taken s (q .before) % frameOf s / lineClocks (timing (s .words))) (vspw (s .words) + 1)
+  step-vsync =
+      reads vsyncActive (λ w v k. refl)
+      ∙ vsync-in-sync-lines (shownWords (final s (q .before))) (final s (q .before) .position)
+      (nextColour (final s (q .before)) (q .lent))
+      ∙ ap₂ (λ (w : Words) (p : ℕ). ltb (p / lineClocks (timing w)) (vspw w + 1)) alike (i .position)
+
+  pub step-hsync : hsyncActive (s .words) (q .shown .clock)
+      ≡ ltb (taken s (q .before) % frameOf s % lineClocks (timing (s .words))) (hspw (s .words) + 1)
+  step-hsync =
+      reads hsyncActive (λ w v k. refl)
+      ∙ hsync-in-sync-clocks (shownWords (final s (q .before))) (final s (q .before) .position)
+      (nextColour (final s (q .before)) (q .lent))
+      ∙ ap₂ (λ (w : Words) (p : ℕ). ltb (p % lineClocks (timing w)) (hspw w + 1)) alike (i .position)

@@ -1,0 +1,131 @@
+-- The state through a frame (document 01, "Clocks and lines"): the waiting view comes into force with clock 0 and stays in force to the
+-- frame's end, and nothing but the view ever changes in the words. Assumes nothing.
+use mathlib.Core.Bool.{Bool, true, false, cond}
+use mathlib.Core.Path.{_≡_, refl, sym, ap, ap₂, _∙_}
+use Prim.Native.Nat.{ℕ, zero, suc, _+_, _-_, _%_, _<_, _≤_}
+use native.Mathlib.Nat.{mod-eq-of-lt, mod-lt, suc-mod}
+use native.Mathlib.Numerals.{add-one}
+use native.Mathlib.Omega.{arith}
+use borrow.Author.Tests.{eq-eqb, ne-eqb}
+use lib.Dec.{eqb}
+use Rattle.panel.proofs.Bounds.{frame-clocks-ge}
+use Rattle.panel.specs.Timing.{Timing, timing, frameClocks}
+use Rattle.registers.specs.declared.Words.{Words}
+use Rattle.scanout.specs.State.{viewOf, withView, frameOf, shownWords, advance, after}
+use Rattle.scanout.specs.declared.state.State.{State}
+use Rattle.scanout.specs.declared.state.Viewport.{Viewport}
+
+-- ---- words that differ in the view only
+
+abbrev pub Alike : Words → Words → Type 0
+Alike w w′ = w ≡ withView w′ (viewOf w)
+
+pub alike-view : (w : Words) (v : Viewport) → Alike (withView w v) w
+alike-view w v = refl
+
+pub alike-self : (w : Words) → Alike w w
+alike-self w = refl
+
+-- whatever view is put into them, the words are then the same
+pub alike-with : (w w′ : Words) → Alike w w′ → (v : Viewport) → withView w v ≡ withView w′ v
+alike-with w w′ a v = ap (λ (x : Words). withView x v) a
+
+pub alike-trans : (w w′ w″ : Words) → Alike w w′ → Alike w′ w″ → Alike w w″
+alike-trans w w′ w″ a b = a ∙ alike-with w′ w″ b (viewOf w)
+
+pub alike-same : (w w′ w″ : Words) → w ≡ w′ → Alike w′ w″ → Alike w w″
+alike-same w w′ w″ e a = e ∙ a ∙ ap (λ (x : Words). withView w″ (viewOf x)) (sym e)
+
+pub alike-timing : (w w′ : Words) → Alike w w′ → timing w ≡ timing w′
+alike-timing w w′ a = ap timing a
+
+-- ---- the words that the next clock is shown with
+
+pub shown-first : (s : State) → s .position ≡ 0 → shownWords s ≡ withView (s .words) (s .pending)
+unfolding shownWords
+shown-first s e = rw (eq-eqb (s .position) 0 e) refl
+
+pub shown-later : (s : State) → (s .position ≡ 0 → ⊥) → shownWords s ≡ s .words
+unfolding shownWords
+shown-later s ne = rw (ne-eqb (s .position) 0 ne) refl
+
+pub shown-alike : (s : State) → Alike (shownWords s) (s .words)
+unfolding shownWords
+shown-alike s = go (eqb (s .position) 0)
+  where
+    go : (b : Bool)
+        → Alike (cond b (withView (s .words) (s .pending)) (s .words)) (s .words)
+    go true = refl
+    go false = refl
+
+pub shown-timing : (s : State) → timing (shownWords s) ≡ timing (s .words)
+shown-timing s = alike-timing (shownWords s) (s .words) (shown-alike s)
+
+pub shown-frame : (s : State) → frameClocks (timing (shownWords s)) ≡ frameOf s
+shown-frame s = ap frameClocks (shown-timing s)
+
+pub some-frame : (s : State) → 0 < frameOf s
+some-frame s = omega (arith, frame-clocks-ge (s .words))
+
+-- ---- the state after n clocks of a frame
+
+-- n of them, the first being taken
+abbrev pub moved : ℕ → State → State
+moved n s =
+    record {
+      words = shownWords s;
+      «window_start» = s .«window_start»;
+      pending = s .pending;
+      position = (s .position + n) % frameOf s;
+    }
+
+-- one more where the frame is not yet at its end
+moved-on : (s : State) (n : ℕ) → 0 < n → s .position + n < frameOf s → advance (moved n s) ≡ moved (n + 1) s
+unfolding advance
+moved-on s n some room =
+    ap₂ (λ (w : Words) (p : ℕ). record { words = w; «window_start» = s .«window_start»; pending = s .pending; position = p })
+    (shown-later (moved n s) (λ z. omega (arith, z, inside)))
+    (ap₂ (λ (p size : ℕ). (p + 1) % size) inside (shown-frame s)
+    ∙ ap (λ (p : ℕ). p % frameOf s) (omega arith))
+  where
+    inside : (s .position + n) % frameOf s ≡ s .position + n
+    inside = mod-eq-of-lt room
+
+pub after-moved : (s : State) (n : ℕ) → 0 < n → s .position + n ≤ frameOf s → after n s ≡ moved n s
+unfolding after advance
+after-moved s zero h room = absurd (omega arith)
+after-moved s (suc zero) h room = refl
+after-moved s (suc (suc n)) h room =
+    ap advance (after-moved s (suc n) (omega arith) (omega arith))
+    ∙ moved-on s (suc n) (omega arith) (omega arith)
+    ∙ ap (λ (k : ℕ). moved k s) (omega arith)
+
+pub shown-after : (s : State) (n : ℕ) → s .position + n < frameOf s → shownWords (after n s) ≡ shownWords s
+unfolding after
+shown-after s zero room = refl
+shown-after s (suc n) room =
+    ap shownWords (after-moved s (suc n) (omega arith) (omega arith))
+    ∙ shown-later (moved (suc n) s) (λ z. omega (arith, z, mod-eq-of-lt room))
+
+pub position-after : (s : State) (n : ℕ) → s .position + n < frameOf s → after n s .position ≡ s .position + n
+unfolding after
+position-after s zero room = omega arith
+position-after s (suc n) room =
+    ap (λ (t : State). t .position) (after-moved s (suc n) (omega arith) (omega arith)) ∙ mod-eq-of-lt room
+
+-- what no clock changes
+pub window-after : (s : State) (n : ℕ) → after n s .«window_start» ≡ s .«window_start»
+unfolding after advance
+window-after s zero = refl
+window-after s (suc n) = window-after s n
+
+pub pending-after : (s : State) (n : ℕ) → after n s .pending ≡ s .pending
+unfolding after advance
+pending-after s zero = refl
+pending-after s (suc n) = pending-after s n
+
+pub alike-after : (s : State) (n : ℕ) → Alike (after n s .words) (s .words)
+unfolding after advance
+alike-after s zero = refl
+alike-after s (suc n) =
+    alike-trans (shownWords (after n s)) (after n s .words) (s .words) (shown-alike (after n s)) (alike-after s n)

@@ -1,0 +1,6 @@
+pub mod State
+pub mod Refusals
+pub mod Answers
+pub mod Calls
+pub mod Lists
+pub mod FrameByFrame

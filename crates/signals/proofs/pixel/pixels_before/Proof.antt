@@ -1,0 +1,45 @@
+-- `signals::pixel::pixels_before` meets its contract. Assumes nothing.
+use native.Mathlib.Omega.{arith}
+use Rattle.panel.proofs.Bounds.{line-clocks-ge}
+use Rattle.signals.specs.Pixel.{columnsBefore, pixelsBefore}
+use Rattle.signals.proofs.pixel.pixels_before.Statement.{statement}
+use Rattle.signals.proofs.pixel.pixels_before.Tie as tie
+
+div-line : tie.Need-div-line
+div-line c = omega (arith, line-clocks-ge (c .before .args .w))
+
+rem-clock : tie.Need-rem-clock
+rem-clock c = omega (arith, line-clocks-ge (c .before .before .args .w))
+
+pixels-in-lines-requires : tie.Need-pixels-in-lines-requires
+unfolding columnsBefore
+pixels-in-lines-requires c κs = (omega arith, omega arith, omega arith)
+
+returns : tie.Need-returns
+unfolding pixelsBefore
+returns c =
+    rw (
+      c .before .before .before .before .before .before .before .line-clocks .ensures,
+      c .before .before .before .columns-before .ensures,
+      c .before .before .before .before .before .before .line-clocks2 .ensures,
+      c .before .before .before .before .before .width .ensures,
+      c .before .before .before .before .clocks-before .ensures,
+      c .before .before .lines-before .ensures,
+      c .before .height .ensures,
+    ) at (c .pixels-in-lines .ensures)
+
+pub pixels-before-spec : {M : Type 1} → statement M
+pixels-before-spec =
+    tie.close
+    (tie.spec
+    (λ c κs. tt)
+    div-line
+    (λ c κs. tt)
+    rem-clock
+    (λ c κs. tt)
+    (λ c κs. tt)
+    (λ c κs. tt)
+    (λ c κs. tt)
+    (λ c κs. tt)
+    pixels-in-lines-requires
+    returns)

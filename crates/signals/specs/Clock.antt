@@ -1,0 +1,62 @@
+-- The four signals at a clock (document 01, "Clocks and lines"). Assumes nothing.
+use mathlib.Core.Bool.{Bool, true, false, not, cond}
+use Prim.Native.Nat.{ℕ, _-_, _%_, _^_}
+use lib.Dec.{eqb}
+use Rattle.panel.specs.Timing.{timing}
+use Rattle.registers.specs.Fields.{invvframe, invvline, invvden, invvd}
+use Rattle.registers.specs.declared.Words.{Words}
+use Rattle.signals.specs.Parts.{linePart, clockPart}
+use Rattle.signals.specs.Pixel.{spotAt}
+use Rattle.signals.specs.declared.clock.Clock.{Clock}
+use Rattle.signals.specs.declared.parts.Part.{Part}
+use Rattle.signals.specs.declared.parts.Part.the-variants.{Sync, BackPorch, Active, FrontPorch}
+use Rattle.signals.specs.declared.pixel.Spot.{Spot}
+use Rattle.signals.specs.declared.pixel.Spot.the-variants.{Pixel, Blank}
+
+-- "A level is 1 when active, exchanged by INVVFRAME, INVVLINE and INVVDEN."
+unfoldable pub level : ℕ → Bool → ℕ
+level invert active = cond (eqb invert 1) (cond active 0 1) (cond active 1 0)
+
+-- "INVVD complements all 24 lines at every clock."
+unfoldable pub dataWord : ℕ → ℕ → ℕ
+dataWord invert colour = cond (eqb invert 1) (2 ^ 24 - 1 - colour % 2 ^ 24) (colour % 2 ^ 24)
+
+unfoldable pub inSync : Part → Bool
+inSync Sync = true
+inSync BackPorch = false
+inSync (Active k) = false
+inSync FrontPorch = false
+
+unfoldable pub showsPixel : Spot → Bool
+showsPixel (Pixel r c) = true
+showsPixel Blank = false
+
+-- "VSYNC is active through all sync lines, HSYNC through the sync clocks of every line, VDEN where line and clock are both active."
+-- The data word is of the position's colour before INVVD.
+unfoldable pub clockAt : Words → ℕ → ℕ → Clock
+clockAt w p colour =
+    record {
+      vsync = level (invvframe w) (inSync (linePart (timing w) p));
+      hsync = level (invvline w) (inSync (clockPart (timing w) p));
+      vden = level (invvden w) (showsPixel (spotAt (timing w) p));
+      vd = dataWord (invvd w) colour;
+    }
+
+-- ---- reading the pins
+
+-- whether a level says active: it differs from the bit that exchanges it
+unfoldable pub isActive : ℕ → ℕ → Bool
+isActive invert level = not (eqb level invert)
+
+abbrev pub vsyncActive : Words → Clock → Bool
+vsyncActive w k = isActive (invvframe w) (k .vsync)
+
+abbrev pub hsyncActive : Words → Clock → Bool
+hsyncActive w k = isActive (invvline w) (k .hsync)
+
+abbrev pub vdenActive : Words → Clock → Bool
+vdenActive w k = isActive (invvden w) (k .vden)
+
+-- the colour "before INVVD" of a data word: INVVD's complement undone
+unfoldable pub beforeInvvd : Words → Clock → ℕ
+beforeInvvd w k = cond (eqb (invvd w) 1) (2 ^ 24 - 1 - k .vd) (k .vd)

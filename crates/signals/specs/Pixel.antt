@@ -1,0 +1,47 @@
+-- The pixel that a clock shows (document 01, "Clocks and lines"), and how many pixels of a frame come before a clock.
+-- Assumes nothing.
+use mathlib.Core.Bool.{cond}
+use Prim.Native.Nat.{ℕ, _+_, _-_, _*_, _/_, _%_, min}
+use lib.Dec.{ltb}
+use Rattle.panel.specs.Timing.{Timing, lineClocks}
+use Rattle.signals.specs.Parts.{linesBefore, clocksBefore, linePart, clockPart}
+use Rattle.signals.specs.declared.parts.Part.{Part}
+use Rattle.signals.specs.declared.parts.Part.the-variants.{Sync, BackPorch, Active, FrontPorch}
+use Rattle.signals.specs.declared.pixel.Spot.{Spot}
+use Rattle.signals.specs.declared.pixel.Spot.the-variants.{Pixel, Blank}
+
+unfoldable pub inRow : ℕ → Part → Spot
+inRow r Sync = Blank
+inRow r BackPorch = Blank
+inRow r (Active c) = Pixel r c
+inRow r FrontPorch = Blank
+
+-- a pixel is shown "where line and clock are both active"
+unfoldable pub spotOf : Part → Part → Spot
+spotOf Sync clock = Blank
+spotOf BackPorch clock = Blank
+spotOf (Active r) clock = inRow r clock
+spotOf FrontPorch clock = Blank
+
+-- what the clock at a position shows
+unfoldable pub spotAt : Timing → ℕ → Spot
+spotAt t p = spotOf (linePart t p) (clockPart t p)
+
+-- "((VSPW+1) + (VBPD+1) + r) × C + (HSPW+1) + (HBPD+1) + c": the position of the pixel in row r, column c
+unfoldable pub pixelClock : Timing → ℕ → ℕ → ℕ
+pixelClock t r c = (linesBefore t + r) * lineClocks t + (clocksBefore t + c)
+
+-- ---- the pixels before a clock, which are those of a run's stretch
+
+unfoldable pub columnsBefore : ℕ → ℕ → ℕ → ℕ
+columnsBefore before wide clock = min (clock - before) wide
+
+-- by the line with a number: none above the active lines, all below them, and in one of them those of the rows above and `columns`
+unfoldable pub pixelsInLines : ℕ → ℕ → ℕ → ℕ → ℕ → ℕ
+pixelsInLines before high wide line columns =
+    cond (ltb line before) 0 (cond (ltb (line - before) high) ((line - before) * wide + columns) (high * wide))
+
+unfoldable pub pixelsBefore : Timing → ℕ → ℕ
+pixelsBefore t p =
+    pixelsInLines (linesBefore t) (t .lineval + 1) (t .hozval + 1) (p / lineClocks t)
+    (columnsBefore (clocksBefore t) (t .hozval + 1) (p % lineClocks t))

@@ -1,0 +1,63 @@
+// The parts of a line and of a frame.
+ghost use mathlib.Core.Path.{_≡_};
+ghost use Prim.Native.Nat.{_+_};
+ghost use Rattle.panel.specs.Timing.{timing};
+ghost use Rattle.signals.specs.Parts.{partAt, linesBefore, clocksBefore, linePart, clockPart};
+use panel::geometry::height;
+use panel::geometry::width;
+use panel::timing::line_clocks;
+use registers::Words;
+
+// A part of a line, or of a frame; an active line or clock by its number among the active ones.
+pub enum Part {
+    Sync,
+    BackPorch,
+    Active(u32),
+    FrontPorch,
+}
+
+// Lines of a frame before its first active one.
+pub fn lines_before(w: Words) -> u32
+    ensures { λ r. ⌜ r ≡ linesBefore (timing w) ⌝ }
+{
+    (w.vspw() + 1) + (w.vbpd() + 1)
+}
+
+// Clocks of a line before its first active one.
+pub fn clocks_before(w: Words) -> u32
+    ensures { λ r. ⌜ r ≡ clocksBefore (timing w) ⌝ }
+{
+    (w.hspw() + 1) + (w.hbpd() + 1)
+}
+
+// The part in which the line, or clock, with a number lies: `sync` of them in sync, `before` ahead of the active ones.
+fn part_at(sync: u32, before: u32, active: u32, number: u32) -> Part
+    ensures { λ r. ⌜ r ≡ partAt sync before active number ⌝ }
+{
+    if number < sync {
+        return Part::Sync;
+    }
+    if number < before {
+        return Part::BackPorch;
+    }
+    if number - before < active {
+        return Part::Active(number - before);
+    }
+    Part::FrontPorch
+}
+
+// The part of the frame in which a position's line lies.
+pub fn line_part(w: Words, position: u32) -> Part
+    ensures { λ r. ⌜ r ≡ linePart (timing w) position ⌝ }
+{
+    let line = position / line_clocks(w);
+    part_at(w.vspw() + 1, lines_before(w), height(w), line)
+}
+
+// The part of its line in which a position lies.
+pub fn clock_part(w: Words, position: u32) -> Part
+    ensures { λ r. ⌜ r ≡ clockPart (timing w) position ⌝ }
+{
+    let clock = position % line_clocks(w);
+    part_at(w.hspw() + 1, clocks_before(w), width(w), clock)
+}
