@@ -19,7 +19,7 @@ use pixels::format::format_of;
 use registers::Words;
 
 // Pixels of the panel.
-fn pixels_of(w: Words) -> u32
+pub fn pixels_of(w: Words) -> u32
     ensures { λ r. ⌜ r ≡ pixels w ⌝ }
     ensures { λ r. ⌜ r ≤ 2048 * 1024 ⌝ }
 {

@@ -25,13 +25,13 @@ use Rattle.scanout.specs.declared.state.State.{State}
 use Rattle.scanout.proofs.Views.{Alike, alike-with, shown-first, shown-later, shown-alike, shown-frame, some-frame}
 
 -- one condition, which does not hold
-none-of-one : (n : ℕ) (b : Bool) → b ≡ false → lowest (n when b ∷ []) ≡ 0
+pub none-of-one : (n : ℕ) (b : Bool) → b ≡ false → lowest (n when b ∷ []) ≡ 0
 unfolding lowest
 none-of-one n b f = rw f refl
 
 module _ (s : State) (lent entries : ℕ) (short : Bool) where
   -- the conditions beside those of the views
-  abbrev rest : List Case
+  abbrev pub rest : List Case
   rest =
       9 when videoOff (s .words)
       ∷ 10 when (paletteWrong entries || short)

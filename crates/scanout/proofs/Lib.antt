@@ -1,6 +1,7 @@
 pub mod Views
 pub mod Acceptance
 pub mod Stretch
+pub mod Drawings
 pub mod Effects
 pub mod Fronts
 pub mod Schedule

@@ -9,13 +9,14 @@ use lib.Arith.{digits-div, digits-mod}
 use Rattle.panel.specs.Timing.{timing, frameClocks}
 use Rattle.registers.specs.declared.Words.{Words}
 use Rattle.scanout.specs.Calls.{withPending}
+use Rattle.scanout.specs.Core.{moved}
 use Rattle.scanout.specs.Lists.{Call, Calls, nothing, _then_, final, taken, next, clocks, waiting, lastView, frameView}
 use Rattle.scanout.specs.State.{viewOf, withView, frameOf, shownWords, after}
 use Rattle.scanout.specs.declared.state.State.{State}
 use Rattle.scanout.specs.declared.state.Viewport.{Viewport}
 use Rattle.scanout.proofs.Effects.{Effect, takes, brings, effect}
 use Rattle.scanout.proofs.Fronts.{begins-self, begins-longer, taken-more, frame-view-in-front, frame-view-begins}
-use Rattle.scanout.proofs.Views.{Alike, alike-self, alike-with, alike-same, alike-trans, shown-first, shown-later, some-frame, moved, after-moved, window-after, pending-after, alike-after}
+use Rattle.scanout.proofs.Views.{Alike, alike-self, alike-with, alike-same, alike-trans, shown-first, shown-later, some-frame, after-moved, window-after, pending-after, alike-after}
 
 pub record Schedule (s : State) (cs : Calls) : Type 0 where
   pub position : final s cs .position ≡ taken s cs % frameOf s

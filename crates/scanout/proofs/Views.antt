@@ -11,6 +11,7 @@ use lib.Dec.{eqb}
 use Rattle.panel.proofs.Bounds.{frame-clocks-ge}
 use Rattle.panel.specs.Timing.{Timing, timing, frameClocks}
 use Rattle.registers.specs.declared.Words.{Words}
+use Rattle.scanout.specs.Core.{moved}
 use Rattle.scanout.specs.State.{viewOf, withView, frameOf, shownWords, advance, after}
 use Rattle.scanout.specs.declared.state.State.{State}
 use Rattle.scanout.specs.declared.state.Viewport.{Viewport}
@@ -68,16 +69,6 @@ pub some-frame : (s : State) → 0 < frameOf s
 some-frame s = omega (arith, frame-clocks-ge (s .words))
 
 -- ---- the state after n clocks of a frame
-
--- n of them, the first being taken
-abbrev pub moved : ℕ → State → State
-moved n s =
-    record {
-      words = shownWords s;
-      «window_start» = s .«window_start»;
-      pending = s .pending;
-      position = (s .position + n) % frameOf s;
-    }
 
 -- one more where the frame is not yet at its end
 moved-on : (s : State) (n : ℕ) → 0 < n → s .position + n < frameOf s → advance (moved n s) ≡ moved (n + 1) s

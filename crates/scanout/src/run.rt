@@ -1,8 +1,75 @@
 // Many clocks of one frame.
+ghost use mathlib.Core.Path.{_≡_};
+ghost use Prim.Native.Nat.{_+_, _<_, _≤_};
+ghost use lib.ListN.{length};
+ghost use Rattle.drawing.specs.Drawing.{tooShort, pixels};
+ghost use Rattle.scanout.specs.Answers.{ran};
+ghost use Rattle.scanout.specs.Calls.{countOf, Run, run, drawn};
+ghost use Rattle.scanout.specs.Core.{lending, running};
+ghost use Rattle.scanout.specs.Refusals.{judgeScan};
+ghost use Rattle.scanout.specs.State.{frameOf};
+use super::refusals::judge_scan;
 use super::state::State;
+use super::state::moved;
+use super::state::shown_words;
+use drawing::picture::draw_stretch;
+use drawing::picture::pixels_of;
+use panel::timing::frame_clocks;
+use signals::pixel::pixels_before;
 
 // How many clocks were taken and the next state, or a refusal's number.
 pub enum Ran {
     Took(u64, State),
     Refused(u32),
+}
+
+// The smaller of a number and the clocks left in the frame.
+fn count_of(s: State, clocks: u64) -> u32
+    requires { ⌜ s .position ≤ frameOf s ⌝ }
+    ensures { λ r. ⌜ r ≡ countOf s clocks ⌝ }
+{
+    let left = frame_clocks(s.words) - s.position;
+    if clocks < left as u64 {
+        return clocks as u32;
+    }
+    left
+}
+
+// Draws the pixels of the next clocks of a frame: a stretch of the picture.
+fn draw_clocks(s: State, video: &[u32], palette: &[u16], count: u32, picture: &mut [u32])
+    requires { ⌜ (judgeScan s (length (now video)) (length (now palette)) (tooShort (length (now picture)) (pixels (s .words))) ≡ 0) × (s .position + count ≤ frameOf s) ⌝ }
+    ensures { λ _. ⌜ now (picture .exit) ≡ drawn count s (lending (now (video .entry)) (now (palette .entry))) (now (picture .entry)) ⌝ }
+{
+    let w = shown_words(s);
+    let first = pixels_before(w, s.position);
+    let end = pixels_before(w, s.position + count);
+    draw_stretch(
+        w,
+        s.window_start,
+        video,
+        palette,
+        first,
+        end - first,
+        picture,
+    );
+}
+
+// Takes up to a number of clocks, and stops at the frame's end: how many it took and the next state. The colours of its active clocks go
+// to their entries of the lent picture; the others stay. Or the number of the refusal: 1 to 8 of the viewport in force and the pending
+// one, 9, 10 for a palette that has not 256 entries or a picture shorter than W x H, 13, 15; then nothing is written.
+pub fn run(s: State, video: &[u32], palette: &[u16], clocks: u64, picture: &mut [u32]) -> Ran
+    ensures { λ r. ⌜ running (ran r) (now (picture .exit)) ≡ run s (lending (now (video .entry)) (now (palette .entry))) clocks (now (picture .entry)) ⌝ }
+{
+    let room = picture.len();
+    let short = room < pixels_of(s.words) as usize;
+    let refusal = judge_scan(s, video.len(), palette.len(), short);
+    if refusal != 0 {
+        return Ran::Refused(refusal);
+    }
+    let count = count_of(s, clocks);
+    if count == 0 {
+        return Ran::Took(0, s);
+    }
+    draw_clocks(s, video, palette, count, picture);
+    Ran::Took(count as u64, moved(s, count))
 }

@@ -1,8 +1,45 @@
 // A start.
+ghost use mathlib.Core.Path.{_≡_};
+ghost use Rattle.laws.specs.Answers.{judged};
+ghost use Rattle.scanout.specs.Answers.{started};
+ghost use Rattle.scanout.specs.Calls.{begun, start};
+ghost use Rattle.scanout.specs.Refusals.{judgeStart};
+use super::refusals::judge_start;
 use super::state::State;
+use super::state::viewport_of;
+use registers::Loaded;
+use registers::Words;
+use registers::load;
 
 // A state at position 0, or a refusal's number.
 pub enum Started {
     Ready(State),
     Refused(u32),
+}
+
+fn begin(w: Words, window_start: u32, lent: usize) -> Started
+    ensures { λ r. ⌜ started r ≡ judged (judgeStart w «window_start» lent) (begun w «window_start») ⌝ }
+{
+    let refusal = judge_start(w, window_start, lent);
+    if refusal != 0 {
+        return Started::Refused(refusal);
+    }
+    let pending = viewport_of(w);
+    Started::Ready(State {
+        words: w,
+        window_start,
+        pending,
+        position: 0,
+    })
+}
+
+// Starts a scan: the given viewport in force and pending, position 0. Or the number of the refusal: 10 for a slice short of nine
+// words, then 1 to 8, 9.
+pub fn start(words: &[u32], window_start: u32, video: &[u32]) -> Started
+    ensures { λ r. ⌜ started r ≡ start (now (words .entry)) «window_start» (now (video .entry)) ⌝ }
+{
+    match load(words) {
+        Loaded::Nine(w) => begin(w, window_start, video.len()),
+        Loaded::Refused(n) => Started::Refused(n),
+    }
 }

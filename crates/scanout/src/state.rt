@@ -1,6 +1,9 @@
 // The state of a scan.
 ghost use mathlib.Core.Path.{_≡_};
-ghost use Rattle.scanout.specs.State.{withView, viewOf, shownWords};
+ghost use Prim.Native.Nat.{_+_, _%_, _<_, _≤_};
+ghost use Rattle.scanout.specs.Core.{moved};
+ghost use Rattle.scanout.specs.State.{withView, viewOf, frameOf, shownWords};
+use panel::timing::frame_clocks;
 use registers::Words;
 
 // Where the picture begins and ends: LCDSADDR1 and LCDSADDR2 (the paper's view).
@@ -53,4 +56,32 @@ pub fn shown_words(s: State) -> Words
         return with_viewport(s.words, s.pending);
     }
     s.words
+}
+
+// The number of the next clock in a frame of so many: after the last comes clock 0.
+fn position_after(position: u32, count: u32, frame: u32) -> u32
+    requires { ⌜ (0 < frame) × (position + count ≤ frame) ⌝ }
+    ensures { λ r. ⌜ r ≡ (position + count) % frame ⌝ }
+{
+    let next = position + count;
+    if next == frame {
+        return 0;
+    }
+    next
+}
+
+// The state so many clocks on, the first of them being taken and the last inside the frame.
+pub(crate) fn moved(s: State, count: u32) -> State
+    requires { ⌜ s .position + count ≤ frameOf s ⌝ }
+    ensures { λ r. ⌜ r ≡ moved count s ⌝ }
+{
+    let words = shown_words(s);
+    let pending = s.pending;
+    let position = position_after(s.position, count, frame_clocks(words));
+    State {
+        words,
+        window_start: s.window_start,
+        pending,
+        position,
+    }
 }

@@ -1,8 +1,31 @@
 // A change of the viewport.
+ghost use mathlib.Core.Path.{_≡_};
+ghost use Rattle.scanout.specs.Answers.{changed};
+ghost use Rattle.scanout.specs.Calls.{change};
+use super::refusals::judge_change;
 use super::state::State;
+use super::state::Viewport;
 
 // The state in which the new viewport waits, or a refusal's number.
 pub enum Changed {
     Waiting(State),
     Refused(u32),
+}
+
+// Brings a new viewport, which waits for the next frame. Or the number of the refusal: 1 to 8 of the viewport in force, the pending one
+// and the new one, 9, 13, 15.
+pub fn change_viewport(s: State, video: &[u32], v: Viewport) -> Changed
+    ensures { λ r. ⌜ changed r ≡ change s (now (video .entry)) v ⌝ }
+{
+    let refusal = judge_change(s, video.len(), v);
+    if refusal != 0 {
+        return Changed::Refused(refusal);
+    }
+    let words = s.words;
+    Changed::Waiting(State {
+        words,
+        window_start: s.window_start,
+        pending: v,
+        position: s.position,
+    })
 }
