@@ -178,13 +178,13 @@ both-pass cs ds t u e = (front, first-none 0 ds u (sym (front-passes (lowest cs)
 
 -- ---- lists that do not rise together: each of several views has its own
 
-lower-min : (a b : ℕ) → 0 < a → 0 < b → lower a b ≡ min a b
+pub lower-min : (a b : ℕ) → 0 < a → 0 < b → lower a b ≡ min a b
 unfolding lower
 lower-min zero b h k = absurd (omega arith)
 lower-min (suc a) zero h k = absurd (omega arith)
 lower-min (suc a) (suc b) h k = refl
 
-lower-none : (a : ℕ) → lower a 0 ≡ a
+pub lower-none : (a : ℕ) → lower a 0 ≡ a
 unfolding lower
 lower-none zero = refl
 lower-none (suc a) = refl

@@ -1,20 +1,19 @@
 -- What an accepted step or run tells (document 01, "Numbers of refusal"): the next clock's view can be drawn from, the position lies
 -- in the frame, and the state one clock on is accepted too. Assumes nothing.
-use mathlib.Core.Bool.{Bool, true, false, not, cond, _||_}
-use mathlib.Core.List.{List, [], _∷_, _++_}
-use mathlib.Core.Path.{_≡_, refl, sym, ap, _∙_}
-use Prim.Native.Nat.{ℕ, _+_, _%_, _<_, _≤_}
+use mathlib.Core.Bool.{Bool, false, not, _||_}
+use mathlib.Core.List.{List, [], _∷_}
+use mathlib.Core.Path.{_≡_, refl, ap, _∙_}
+use Prim.Native.Nat.{ℕ, _+_, _<_}
 use native.Mathlib.Decide.{ℕ-discrete}
 use native.Mathlib.Nat.{mod-lt}
-use native.Mathlib.Omega.{arith}
-use borrow.Author.Tests.{leb-false, lt-leb, eq-eqb, ltb-false}
+use borrow.Author.Tests.{leb-false, lt-leb, eq-eqb}
 use lib.Dec.{eqb, leb}
 use lib.ListN.{length}
 use Rattle.laws.specs.Answers.{judged, accepted}
 use Rattle.laws.specs.Booleans.{or-false, or-false-left, or-false-right}
 use Rattle.laws.specs.Cases.{Case, _when_, NoneHolds, lowest, lower, lowest-zero-none-holds, joined-pass, pass-joined}
 use Rattle.drawing.specs.Colour.{colour}
-use Rattle.drawing.specs.Drawing.{videoOff, paletteWrong, tooShort, rowOutside, columnOutside, drawingCases, judgePixel, drawPixel, judgeStretch, stretchOutside, pixels}
+use Rattle.drawing.specs.Drawing.{videoOff, paletteWrong, rowOutside, columnOutside, drawingCases, judgePixel, drawPixel}
 use Rattle.memory.specs.Memory.{memoryCases}
 use Rattle.panel.specs.Geometry.{width, height}
 use Rattle.registers.specs.Fields.{lcdbank}

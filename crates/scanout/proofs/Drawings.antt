@@ -1,17 +1,17 @@
 -- What an accepted call draws by the calls of `drawing` (document 01, "Clocks and lines"): one pixel for a step, a stretch of the picture
 -- for a run; neither is refused. Assumes nothing.
-use mathlib.Core.Bool.{Bool, false}
+use mathlib.Core.Bool.{Bool}
 use mathlib.Core.List.{List, [], _∷_}
-use mathlib.Core.Path.{_≡_, refl, sym, ap, ap₂, _∙_}
-use Prim.Native.Nat.{ℕ, _+_, _-_, _*_, _≤_}
+use mathlib.Core.Path.{_≡_, sym, ap, ap₂, _∙_}
+use Prim.Native.Nat.{ℕ, _+_, _-_, _≤_}
 use native.Mathlib.Nat.{mul-comm}
 use native.Mathlib.Omega.{arith}
 use borrow.Author.Tests.{le-ltb}
 use lib.ListN.{length}
-use Rattle.laws.specs.Answers.{Answer, accepted, Outcome, outcome, leaves}
+use Rattle.laws.specs.Answers.{Answer, accepted, outcome, leaves}
 use Rattle.laws.specs.Cases.{_when_, pass-joined}
 use Rattle.laws.specs.Storing.{stores}
-use Rattle.drawing.specs.Drawing.{tooShort, pixels, stretchOutside, drawingCases, colourInOrder, judgeStretch, drawStretch}
+use Rattle.drawing.specs.Drawing.{tooShort, pixels, stretchOutside, drawingCases, judgeStretch, drawStretch}
 use Rattle.panel.specs.Geometry.{width, height}
 use Rattle.panel.specs.Timing.{Timing, timing}
 use Rattle.registers.specs.declared.Words.{Words}

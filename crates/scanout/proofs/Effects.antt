@@ -3,16 +3,16 @@
 use mathlib.Core.Bool.{false}
 use mathlib.Core.List.{List}
 use mathlib.Core.Path.{_≡_, refl, sym, ap, _∙_}
-use Prim.Native.Nat.{ℕ, zero, suc, _+_, _-_, min, _<_, _≤_}
+use Prim.Native.Nat.{ℕ, zero, suc, _+_, _<_, _≤_}
 use native.Mathlib.Omega.{arith}
 use lib.ListN.{length}
-use Rattle.laws.specs.Answers.{Answer, accepted, refused, judged, outcome, judged-accepted, judged-refused}
+use Rattle.laws.specs.Answers.{Answer, accepted, refused, outcome, judged-accepted, judged-refused}
 use Rattle.drawing.specs.Drawing.{tooShort, pixels}
 use Rattle.signals.specs.Clock.{clockAt}
 use Rattle.scanout.specs.Answers.{Shown, Taken}
 use Rattle.scanout.specs.Calls.{Lent, nextColour, judgeStep, step, countOf, drawn, judgeRun, run, withPending, change}
-use Rattle.scanout.specs.Lists.{Call, aStep, aRun, aChange, orElse, numberOf, refusal, next, clocks, waiting, pictureAfter}
-use Rattle.scanout.specs.Refusals.{judgeScan, judgeChange}
+use Rattle.scanout.specs.Lists.{Call, aStep, aRun, aChange, orElse, numberOf, refusal, next, clocks, pendingAfter, pictureAfter}
+use Rattle.scanout.specs.Refusals.{judgeChange}
 use Rattle.scanout.specs.State.{frameOf, shownWords, advance, after}
 use Rattle.scanout.specs.declared.state.State.{State}
 use Rattle.scanout.specs.declared.state.Viewport.{Viewport}
@@ -78,19 +78,19 @@ refused-run-left s l n picture k e =
 
 pub data Effect (s : State) (c : Call) : Type 0 where
   takes : (m : ℕ) → clocks s c ≡ m → (0 < m → s .position + m ≤ frameOf s) → next s c ≡ after m s
-      → ((v : Viewport) → waiting s v c ≡ v) → Effect s c
-  brings : (v : Viewport) → clocks s c ≡ 0 → next s c ≡ withPending s v → ((u : Viewport) → waiting s u c ≡ v) → Effect s c
+      → ((v : Viewport) → pendingAfter s v c ≡ v) → Effect s c
+  brings : (v : Viewport) → clocks s c ≡ 0 → next s c ≡ withPending s v → ((u : Viewport) → pendingAfter s u c ≡ v) → Effect s c
 
 module _ (s : State) where
   of-step : (l : Lent) (a : Answer Shown) → step s l ≡ a → Effect s (aStep l)
-  unfolding clocks next waiting orElse after
+  unfolding clocks next pendingAfter orElse after
   of-step l (accepted k) e =
       takes 1 (ap (orElse (λ x. 1) 0) e) (λ h. omega (arith, step-passed s l k e .inside))
       (ap (orElse (λ x. x .next) s) e ∙ step-next s l k e) (λ v. refl)
   of-step l (refused n) e = takes 0 (ap (orElse (λ x. 1) 0) e) (λ h. absurd (omega arith)) (ap (orElse (λ x. x .next) s) e) (λ v. refl)
 
   of-run : (l : Lent) (n : ℕ) (picture : List ℕ) (a : Answer Taken) → run s l n picture .answer ≡ a → Effect s (aRun l n picture)
-  unfolding clocks next waiting orElse after
+  unfolding clocks next pendingAfter orElse after
   of-run l n picture (accepted t) e =
       takes (countOf s n) (ap (orElse (λ x. x .count) 0) e ∙ run-count s l n picture t e)
       (λ h. run-room s l n picture t e) (ap (orElse (λ x. x .next) s) e ∙ run-next s l n picture t e) (λ v. refl)
@@ -98,7 +98,7 @@ module _ (s : State) where
       takes 0 (ap (orElse (λ x. x .count) 0) e) (λ h. absurd (omega arith)) (ap (orElse (λ x. x .next) s) e) (λ v. refl)
 
   of-change : (memory : List ℕ) (v : Viewport) (a : Answer State) → change s memory v ≡ a → Effect s (aChange memory v)
-  unfolding clocks next waiting orElse after change
+  unfolding clocks next pendingAfter orElse after change
   of-change memory v (accepted t) e =
       brings v refl
       (ap (orElse (λ x. x) s) e
@@ -116,7 +116,7 @@ module _ (s : State) where
 pub record Unchanged (s : State) (c : Call) : Type 0 where
   pub state : next s c ≡ s
   pub none : clocks s c ≡ 0
-  pub view : (v : Viewport) → waiting s v c ≡ v
+  pub view : (v : Viewport) → pendingAfter s v c ≡ v
   pub picture : (p : List ℕ) → pictureAfter s p c ≡ p
 
 -- an answer with a number is that refusal
@@ -125,6 +125,12 @@ unfolding numberOf
 is-refused (accepted x) ne = absurd (ne refl)
 is-refused (refused m) ne = refl
 
+-- and leaves what there was
+else-kept : {A B : Type 0} (f : A → B) (b : B) (a : Answer A) → (numberOf a ≡ 0 → ⊥) → orElse f b a ≡ b
+unfolding orElse numberOf
+else-kept f b (accepted x) ne = absurd (ne refl)
+else-kept f b (refused m) ne = refl
+
 module _ (s : State) where
   pub refused-answer : (l : Lent) (n : ℕ) (picture : List ℕ) → (refusal s (aRun l n picture) ≡ 0 → ⊥)
       → run s l n picture .answer ≡ refused (refusal s (aRun l n picture))
@@ -132,28 +138,25 @@ module _ (s : State) where
   refused-answer l n picture ne = is-refused (run s l n picture .answer) ne
 
   pub unchanged : (c : Call) → (refusal s c ≡ 0 → ⊥) → Unchanged s c
-  unfolding refusal next clocks waiting pictureAfter orElse
+  unfolding refusal next clocks pendingAfter pictureAfter
   unchanged (aStep l) ne =
-      let r = is-refused (step s l) ne in
       record {
-        state = ap (orElse (λ x. x .next) s) r;
-        none = ap (orElse (λ x. 1) 0) r;
+        state = else-kept _ s (step s l) ne;
+        none = else-kept _ 0 (step s l) ne;
         view = λ v. refl;
         picture = λ p. refl;
       }
   unchanged (aRun l n picture) ne =
-      let r = is-refused (run s l n picture .answer) ne in
       record {
-        state = ap (orElse (λ x. x .next) s) r;
-        none = ap (orElse (λ x. x .count) 0) r;
+        state = else-kept _ s (run s l n picture .answer) ne;
+        none = else-kept _ 0 (run s l n picture .answer) ne;
         view = λ v. refl;
-        picture = λ p. ap (orElse (λ x. run s l n picture .left) p) r;
+        picture = λ p. else-kept _ p (run s l n picture .answer) ne;
       }
   unchanged (aChange memory v) ne =
-      let r = is-refused (change s memory v) ne in
       record {
-        state = ap (orElse (λ x. x) s) r;
+        state = else-kept _ s (change s memory v) ne;
         none = refl;
-        view = λ u. ap (orElse (λ x. v) u) r;
+        view = λ u. else-kept _ u (change s memory v) ne;
         picture = λ p. refl;
       }

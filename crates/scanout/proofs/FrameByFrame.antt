@@ -1,10 +1,10 @@
 -- Demand 3 (document 01, "Clocks and lines"), proved of every list of calls and every state at position 0, a start's among them; and
 -- that a run leaves the state that as many accepted single steps leave. Assumes nothing.
-use mathlib.Core.Bool.{Bool, false}
+use mathlib.Core.Bool.{false}
 use mathlib.Core.List.{List}
 use mathlib.Core.Logic.{_⊎_, inl, inr}
 use mathlib.Core.Path.{_≡_, refl, sym, ap, ap₂, _∙_}
-use Prim.Native.Nat.{ℕ, zero, suc, _+_, _*_, _<_, _≤_}
+use Prim.Native.Nat.{ℕ, zero, suc, _+_, _<_, _≤_}
 use native.Mathlib.Decide.{decLt}
 use native.Mathlib.Omega.{arith}
 use lib.ListN.{length}
@@ -13,16 +13,16 @@ use Rattle.drawing.specs.Drawing.{tooShort, pixels}
 use Rattle.registers.specs.Loading.{load}
 use Rattle.registers.specs.declared.Words.{Words}
 use Rattle.signals.specs.Clock.{clockAt}
-use Rattle.scanout.specs.Answers.{Shown}
-use Rattle.scanout.specs.Calls.{Lent, begun, start, nextColour, judgeStep, step}
-use Rattle.scanout.specs.FrameByFrame.{InFrame, OnPanel, pixelTime, frameColour, StepIn, RunIn, Takes, SameLent, FrameByFrame, Demand3, Demand3FromStart, singleSteps, RunIsSteps}
-use Rattle.scanout.specs.Lists.{Call, aStep, aRun, lentTo, orElse, numberOf, refusal, next, clocks, Calls, nothing, _then_, Begins, final, taken, lastView, pictureLeft}
+use Rattle.scanout.specs.Answers.{Shown, Taken}
+use Rattle.scanout.specs.Calls.{Lent, begun, start, nextColour, judgeStep, step, run}
+use Rattle.scanout.specs.FrameByFrame.{pixelTime, frameColour, Takes, TakenBy, by-step, by-run, Demand3, Demand3FromStart, singleSteps, RunIsSteps}
+use Rattle.scanout.specs.Lists.{Call, aStep, aRun, aChange, orElse, numberOf, refusal, next, clocks, Calls, nothing, _then_, Begins, final, taken, lastView, pictureLeft}
 use Rattle.scanout.specs.Refusals.{judgeStart}
-use Rattle.scanout.specs.State.{frameOf, shownWords, advance, after}
+use Rattle.scanout.specs.State.{shownWords, advance, after}
 use Rattle.scanout.specs.declared.state.State.{State}
 use Rattle.scanout.proofs.Acceptance.{Passed, judged-passed, as-step, advance-passes}
-use Rattle.scanout.proofs.Effects.{run-passed, run-count, run-next, Unchanged, unchanged, refused-answer, refused-run-left}
-use Rattle.scanout.proofs.Fronts.{begins-self, begins-longer, begins-shorter, not-nothing, same-front, taken-more, taken-front}
+use Rattle.scanout.proofs.Effects.{run-passed, run-count, run-next, unchanged, refused-answer, refused-run-left}
+use Rattle.scanout.proofs.Fronts.{begins-self, begins-longer, not-nothing, same-front, taken-more, taken-front}
 use Rattle.scanout.proofs.Pictures.{untouched, picture-length, last-colour}
 use Rattle.scanout.proofs.PixelTimes.{pixel-in-frame, reading-order, one-pixel}
 use Rattle.scanout.proofs.Runs.{run-counts, run-clocks, run-shows, run-keeps, run-length}
@@ -83,6 +83,30 @@ module _ (s : State) where
           (record { before = p .before; call = p .call; inside = b; from = p .from; past = p .past })
           (record { before = q .before; call = q .call; inside = b′; from = q .from; past = q .past })
 
+  -- a call that takes a clock is an accepted step or run
+  module _ (calls before : Calls) (n : ℕ) (h : taken s before ≤ n) where
+    of-step : (l : Lent) (a : Answer Shown) → step (final s before) l ≡ a → Begins (before then aStep l) calls
+        → n < taken s (before then aStep l) → TakenBy s calls n
+    unfolding taken clocks orElse
+    of-step l (accepted k) e b p =
+        by-step (record { before = before; lent = l; inside = b; shown = k; done = e })
+        (omega (arith, h, p, ap {B = ℕ} (orElse (λ x. 1) 0) e))
+    of-step l (refused k) e b p = absurd (omega (arith, h, p, ap {B = ℕ} (orElse (λ x. 1) 0) e))
+
+    of-run : (l : Lent) (m : ℕ) (picture : List ℕ) (a : Answer Taken) → run (final s before) l m picture .answer ≡ a
+        → Begins (before then aRun l m picture) calls → n < taken s (before then aRun l m picture) → TakenBy s calls n
+    unfolding taken clocks orElse
+    of-run l m picture (accepted t) e b p =
+        by-run (record { before = before; lent = l; number = m; picture = picture; inside = b; answer = t; done = e })
+        (record { from = h; before = omega (arith, p, ap (orElse (λ x. x .count) 0) e) })
+    of-run l m picture (refused k) e b p = absurd (omega (arith, h, p, ap (orElse (λ x. x .count) 0) e))
+
+    by-which : (c : Call) → Begins (before then c) calls → n < taken s (before then c) → TakenBy s calls n
+    unfolding taken clocks
+    by-which (aStep l) b p = of-step l (step (final s before) l) refl b p
+    by-which (aRun l m picture) b p = of-run l m picture (run (final s before) l m picture .answer) refl b p
+    by-which (aChange memory v) b p = absurd (omega (arith, h, p))
+
   -- ---- refused calls
 
   refused-leaves : (before : Calls) (c : Call) → (refusal (final s before) c ≡ 0 → ⊥)
@@ -126,6 +150,7 @@ demand-3 s start calls =
           (refused-answer (final s before) l n picture ne);
       each-clock = λ n h. each-clock s calls n h;
       once = λ n p q. once s calls n p q;
+      by-which = λ n t. by-which s calls (t .before) n (t .from) (t .call) (t .inside) (t .past);
       pixel-in-frame = λ f r c o. pixel-in-frame s f r c o;
       one-pixel = λ n x y. one-pixel s n x y;
       whole-frame = λ f h r c o. each-clock s calls (pixelTime s f r c) (omega (arith, h, pixel-in-frame s f r c o .before));

@@ -1,13 +1,11 @@
 -- The front of a list of calls (document 01, "Clocks and lines"): what was taken by it stays taken, and the calls before a clock that
 -- it took are the same in the whole list. These laws never look into a call. Assumes nothing.
-use mathlib.Core.Bool.{Bool, true, false, cond, false≢true}
-use mathlib.Core.Logic.{_⊎_, inl, inr}
-use mathlib.Core.Path.{_≡_, refl, sym, ap, _∙_}
+use mathlib.Core.Bool.{Bool, true, false, false≢true}
+use mathlib.Core.Logic.{inl, inr}
+use mathlib.Core.Path.{_≡_, refl, ap}
 use Prim.Native.Nat.{ℕ, _+_, _*_, _<_, _≤_}
-use native.Mathlib.Decide.{decLt}
 use native.Mathlib.Omega.{arith}
 use borrow.Author.Tests.{lt-ltb, le-ltb}
-use lib.Dec.{ltb}
 use Rattle.scanout.specs.Lists.{Call, Calls, nothing, _then_, Begins, final, clocks, taken, lastView, callsBefore, frameView}
 use Rattle.scanout.specs.State.{frameOf}
 use Rattle.scanout.specs.declared.state.State.{State}

@@ -10,3 +10,4 @@ pub mod Steps
 pub mod Runs
 pub mod Pictures
 pub mod FrameByFrame
+pub mod Examples

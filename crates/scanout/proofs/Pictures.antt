@@ -3,23 +3,21 @@
 use mathlib.Core.List.{List}
 use mathlib.Core.Logic.{_⊎_, inl, inr}
 use mathlib.Core.Path.{_≡_, refl, sym, ap, _∙_}
-use Prim.Native.Nat.{ℕ, _+_, _*_, _/_, _<_, _≤_}
-use native.Mathlib.Nat.{div-mul-le-self}
+use Prim.Native.Nat.{ℕ, _<_, _≤_}
 use native.Mathlib.Omega.{arith}
 use lib.ListN.{length, getD}
 use Rattle.laws.specs.Answers.{Answer, accepted, refused}
 use Rattle.drawing.specs.Drawing.{drawPixel}
 use Rattle.scanout.specs.Answers.{Taken}
 use Rattle.scanout.specs.Calls.{Lent, run}
-use Rattle.scanout.specs.FrameByFrame.{PixelAt, entryOf, frameColour, pixelColour, RunIn, leftBy, RunTakes, OnePicture}
-use Rattle.scanout.specs.Lists.{Call, aStep, aRun, aChange, orElse, Calls, nothing, _then_, Begins, final, clocks, taken, pictureAfter, pictureLeft, frameView}
-use Rattle.scanout.specs.State.{withView, frameOf}
+use Rattle.scanout.specs.FrameByFrame.{PixelAt, entryOf, pixelColour, RunIn, leftBy, RunTakes, OnePicture}
+use Rattle.scanout.specs.Lists.{Call, aStep, aRun, aChange, orElse, Calls, nothing, _then_, Begins, final, taken, pictureAfter, pictureLeft}
+use Rattle.scanout.specs.State.{withView}
 use Rattle.scanout.specs.declared.state.State.{State}
 use Rattle.scanout.specs.declared.state.Viewport.{Viewport}
 use Rattle.scanout.proofs.Fronts.{begins-self, begins-longer, not-nothing, taken-front, taken-more, frame-view-in-front}
-use Rattle.scanout.proofs.PixelTimes.{its-frame}
 use Rattle.scanout.proofs.Runs.{run-shows, run-keeps, run-length, run-clocks}
-use Rattle.scanout.proofs.Schedule.{Schedule, schedule}
+use Rattle.scanout.proofs.Schedule.{schedule}
 
 module _ (s : State) where
   -- a run of the front is one of the longer list

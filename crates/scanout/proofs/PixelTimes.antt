@@ -1,7 +1,7 @@
 -- Clock numbers and pixels over all frames (document 01, "Clocks and lines"): clock n is the formula's clock of a pixel exactly where its
 -- position, n modulo L × C, shows that pixel; then the frame is n / (L × C). Assumes nothing.
-use mathlib.Core.Path.{_≡_, refl, sym, ap, _∙_}
-use Prim.Native.Nat.{ℕ, _+_, _*_, _/_, _%_, _<_, _≤_}
+use mathlib.Core.Path.{_≡_, sym, ap, _∙_}
+use Prim.Native.Nat.{ℕ, _+_, _*_, _/_, _%_, _<_}
 use native.Mathlib.Nat.{div-add-mod', add-mul}
 use native.Mathlib.Omega.{arith}
 use lib.Arith.{digits-div, digits-mod}
@@ -10,7 +10,7 @@ use Rattle.panel.specs.Timing.{Timing, timing}
 use Rattle.signals.proofs.Positions.{At, at-pixel-clock, at-is-pixel-clock, pixel-clock-in-frame}
 use Rattle.signals.proofs.ReadingOrder.{in-clock-order}
 use Rattle.signals.specs.Pixel.{pixelClock}
-use Rattle.scanout.specs.FrameByFrame.{InFrame, OnPanel, pixelTime, PixelAt, entryOf}
+use Rattle.scanout.specs.FrameByFrame.{InFrame, OnPanel, pixelTime, PixelAt}
 use Rattle.scanout.specs.State.{frameOf}
 use Rattle.scanout.specs.declared.state.State.{State}
 

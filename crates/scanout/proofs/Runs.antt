@@ -1,7 +1,6 @@
 -- What the accepted runs of a list write (document 01, "Clocks and lines"). Assumes nothing.
-use mathlib.Core.Bool.{Bool, false}
 use mathlib.Core.List.{List}
-use mathlib.Core.Path.{_≡_, refl, sym, ap, ap₂, _∙_}
+use mathlib.Core.Path.{_≡_, sym, ap, ap₂, _∙_}
 use Prim.Native.Nat.{ℕ, _+_, _-_, _*_, _/_, _%_, min, _<_, _≤_}
 use native.Mathlib.Nat.{mul-comm}
 use native.Mathlib.Omega.{arith}
@@ -11,17 +10,16 @@ use Rattle.laws.specs.Answers.{accepted}
 use Rattle.laws.specs.Storing.{stores, length-stores, entry-stored, entry-outside}
 use Rattle.drawing.specs.Drawing.{tooShort, pixels}
 use Rattle.panel.specs.Geometry.{width, height}
-use Rattle.panel.specs.Timing.{Timing, timing}
-use Rattle.registers.specs.declared.Words.{Words}
+use Rattle.panel.specs.Timing.{timing}
 use Rattle.signals.proofs.Positions.{At}
 use Rattle.signals.proofs.ReadingOrder.{before-pixel, after-pixel, further, at-most-all, Between, between}
 use Rattle.signals.specs.Pixel.{pixelsBefore}
-use Rattle.scanout.specs.Calls.{Lent, run, countOf}
+use Rattle.scanout.specs.Calls.{countOf}
 use Rattle.scanout.specs.FrameByFrame.{PixelAt, entryOf, frameColour, pixelColour, RunIn, leftBy, RunTakes}
-use Rattle.scanout.specs.Lists.{aRun, orElse, Calls, _then_, final, clocks, taken}
-use Rattle.scanout.specs.State.{frameOf, shownWords}
+use Rattle.scanout.specs.Lists.{aRun, orElse, Calls, final, clocks, taken}
+use Rattle.scanout.specs.State.{frameOf}
 use Rattle.scanout.specs.declared.state.State.{State}
-use Rattle.scanout.proofs.Acceptance.{Passed, short-passes}
+use Rattle.scanout.proofs.Acceptance.{short-passes}
 use Rattle.scanout.proofs.Effects.{run-passed, run-count, run-left, run-room}
 use Rattle.scanout.proofs.PixelTimes.{its-frame, pixel-position, position-pixel}
 use Rattle.scanout.proofs.Schedule.{Schedule, same-frame, still-inside}
@@ -30,23 +28,30 @@ use Rattle.scanout.proofs.Stretch.{first, many, colours, same-colour, d
 use Rattle.scanout.proofs.Views.{some-frame}
 
 module _ (s : State) (calls : Calls) (q : RunIn s calls) (i : Schedule s (q .before)) where
-  count-is : q .answer .count ≡ countOf (final s (q .before)) (q .number)
-  count-is = run-count (final s (q .before)) (q .lent) (q .number) (q .picture) (q .answer) (q .done)
+  -- the state that the call gets, and the number of its first clock
+  abbrev here : State
+  here = final s (q .before)
 
-  pub run-counts : q .answer .count ≡ min (q .number) (frameOf s - taken s (q .before) % frameOf s)
+  abbrev from : ℕ
+  from = taken s (q .before)
+
+  count-is : q .answer .count ≡ countOf here (q .number)
+  count-is = run-count here (q .lent) (q .number) (q .picture) (q .answer) (q .done)
+
+  pub run-counts : q .answer .count ≡ min (q .number) (frameOf s - from % frameOf s)
   unfolding countOf
   run-counts = count-is ∙ ap₂ (λ (size p : ℕ). min (q .number) (size - p)) (same-frame s (q .before) i) (i .position)
 
-  pub run-clocks : clocks (final s (q .before)) (aRun (q .lent) (q .number) (q .picture)) ≡ q .answer .count
+  pub run-clocks : clocks here (aRun (q .lent) (q .number) (q .picture)) ≡ q .answer .count
   unfolding clocks orElse
   run-clocks = ap (orElse (λ t. t .count) 0) (q .done)
 
   -- the run stays in its frame
-  fits : taken s (q .before) % frameOf s + q .answer .count ≤ frameOf s
+  fits : from % frameOf s + q .answer .count ≤ frameOf s
   fits =
       omega (
         arith,
-        run-room (final s (q .before)) (q .lent) (q .number) (q .picture) (q .answer) (q .done),
+        run-room here (q .lent) (q .number) (q .picture) (q .answer) (q .done),
         count-is,
         i .position,
         same-frame s (q .before) i,
@@ -54,54 +59,54 @@ module _ (s : State) (calls : Calls) (q : RunIn s calls) (i : Schedule s (q .bef
 
   -- ---- the stretch
 
-  same-timing : timing (final s (q .before) .words) ≡ timing (s .words)
+  same-timing : timing (here .words) ≡ timing (s .words)
   same-timing = ap timing (i .alike)
 
-  first-is : first (final s (q .before)) (q .lent) ≡ pixelsBefore (timing (s .words)) (taken s (q .before) % frameOf s)
+  first-is : first here (q .lent) ≡ pixelsBefore (timing (s .words)) (from % frameOf s)
   first-is = ap₂ pixelsBefore same-timing (i .position)
 
-  many-is : many (final s (q .before)) (q .lent) (countOf (final s (q .before)) (q .number))
-      ≡ pixelsBefore (timing (s .words)) (taken s (q .before) % frameOf s + q .answer .count)
-      - pixelsBefore (timing (s .words)) (taken s (q .before) % frameOf s)
+  many-is : many here (q .lent) (countOf here (q .number))
+      ≡ pixelsBefore (timing (s .words)) (from % frameOf s + q .answer .count)
+      - pixelsBefore (timing (s .words)) (from % frameOf s)
   many-is =
       ap₂ (λ (a b : ℕ). a - b)
       (ap₂ pixelsBefore same-timing (ap₂ _+_ (i .position) (sym count-is))) first-is
 
   left-is : leftBy s calls q
-      ≡ stores (colours (final s (q .before)) (q .lent)) (first (final s (q .before)) (q .lent))
-      (many (final s (q .before)) (q .lent) (countOf (final s (q .before)) (q .number))) (q .picture)
+      ≡ stores (colours here (q .lent)) (first here (q .lent))
+      (many here (q .lent) (countOf here (q .number))) (q .picture)
   left-is =
-      run-left (final s (q .before)) (q .lent) (q .number) (q .picture) (q .answer) (q .done)
-      ∙ drawn-is-stretch (final s (q .before)) (q .lent) (countOf (final s (q .before)) (q .number)) (q .picture)
-      (run-room (final s (q .before)) (q .lent) (q .number) (q .picture) (q .answer) (q .done))
+      run-left here (q .lent) (q .number) (q .picture) (q .answer) (q .done)
+      ∙ drawn-is-stretch here (q .lent) (countOf here (q .number)) (q .picture)
+      (run-room here (q .lent) (q .number) (q .picture) (q .answer) (q .done))
 
   pub run-length : length (leftBy s calls q) ≡ length (q .picture)
   run-length = ap length left-is ∙ length-stores _ _ _ (q .picture)
 
   -- the picture has room for it
-  room : pixelsBefore (timing (s .words)) (taken s (q .before) % frameOf s + q .answer .count) ≤ length (q .picture)
+  room : pixelsBefore (timing (s .words)) (from % frameOf s + q .answer .count) ≤ length (q .picture)
   unfolding tooShort
   room =
       omega (
         arith,
-        at-most-all (timing (s .words)) (taken s (q .before) % frameOf s + q .answer .count),
+        at-most-all (timing (s .words)) (from % frameOf s + q .answer .count),
         mul-comm (width (s .words)) (height (s .words)),
         ap pixels (i .alike),
-        ltb-false (length (q .picture)) (pixels (final s (q .before) .words))
-            (short-passes (final s (q .before)) (length (q .lent .memory)) (length (q .lent .palette))
-            (tooShort (length (q .picture)) (pixels (final s (q .before) .words)))
-            (run-passed (final s (q .before)) (q .lent) (q .number) (q .picture) (q .answer) (q .done))),
+        ltb-false (length (q .picture)) (pixels (here .words))
+            (short-passes here (length (q .lent .memory)) (length (q .lent .palette))
+            (tooShort (length (q .picture)) (pixels (here .words)))
+            (run-passed here (q .lent) (q .number) (q .picture) (q .answer) (q .done))),
       )
 
   -- ---- a clock of the run, by its number in the list
 
   pub clock-inside : (n : ℕ) → RunTakes s calls q n
-      → (n / frameOf s ≡ taken s (q .before) / frameOf s)
-      × (n % frameOf s ≡ taken s (q .before) % frameOf s + (n - taken s (q .before)))
+      → (n / frameOf s ≡ from / frameOf s)
+      × (n % frameOf s ≡ from % frameOf s + (n - from))
   clock-inside n u =
-      let e : taken s (q .before) + (n - taken s (q .before)) ≡ n = omega (arith, u .from) in
+      let e : from + (n - from) ≡ n = omega (arith, u .from) in
       let h =
-      still-inside (taken s (q .before)) (n - taken s (q .before)) (frameOf s) (some-frame s)
+      still-inside from (n - from) (frameOf s) (some-frame s)
       (omega (arith, fits, u .from, u .before))
       in
       (ap (λ (k : ℕ). k / frameOf s) (sym e) ∙ h .0, ap (λ (k : ℕ). k % frameOf s) (sym e) ∙ h .1)
@@ -110,22 +115,22 @@ module _ (s : State) (calls : Calls) (q : RunIn s calls) (i : Schedule s (q .bef
     at : At (timing (s .words)) (n % frameOf s) (x .row) (x .column)
     at = pixel-position s n x
 
-    not-before : first (final s (q .before)) (q .lent) ≤ x .row * width (s .words) + x .column
+    not-before : first here (q .lent) ≤ x .row * width (s .words) + x .column
     not-before =
         omega (
           arith,
           first-is,
           before-pixel (timing (s .words)) (n % frameOf s) (x .row) (x .column) at,
-          further (timing (s .words)) (taken s (q .before) % frameOf s) (n % frameOf s) (omega (arith, clock-inside n u .1)),
+          further (timing (s .words)) (from % frameOf s) (n % frameOf s) (omega (arith, clock-inside n u .1)),
         )
 
     not-past : x .row * width (s .words) + x .column
-        < pixelsBefore (timing (s .words)) (taken s (q .before) % frameOf s + q .answer .count)
+        < pixelsBefore (timing (s .words)) (from % frameOf s + q .answer .count)
     not-past =
         omega (
           arith,
           after-pixel (timing (s .words)) (n % frameOf s) (x .row) (x .column) at,
-          further (timing (s .words)) (n % frameOf s + 1) (taken s (q .before) % frameOf s + q .answer .count)
+          further (timing (s .words)) (n % frameOf s + 1) (from % frameOf s + q .answer .count)
               (omega (arith, clock-inside n u .1, u .from, u .before)),
         )
 
@@ -134,29 +139,29 @@ module _ (s : State) (calls : Calls) (q : RunIn s calls) (i : Schedule s (q .bef
         ap accepted
         (ap (λ (p : List ℕ). getD p (entryOf s n x) 0) left-is
         ∙ ap (λ (j : ℕ). getD stored j 0) place
-        ∙ entry-stored (colours (final s (q .before)) (q .lent)) (first (final s (q .before)) (q .lent))
-        (many (final s (q .before)) (q .lent) (countOf (final s (q .before)) (q .number))) (q .picture) offset
+        ∙ entry-stored (colours here (q .lent)) (first here (q .lent))
+        (many here (q .lent) (countOf here (q .number))) (q .picture) offset
         (omega (arith, room, first-is, many-is, not-before, not-past)) (omega (arith, first-is, many-is, not-before, not-past))
-        ∙ sym (same-colour (final s (q .before)) (q .lent) (first (final s (q .before)) (q .lent) + offset) (x .row) (x .column)
+        ∙ sym (same-colour here (q .lent) (first here (q .lent) + offset) (x .row) (x .column)
         (sym place ∙ ap (λ (wide : ℕ). x .row * wide + x .column) (sym same-width)) (rw same-width (x .on-panel .column))))
         ∙ sym (frame-colour s calls (q .before) (aRun (q .lent) (q .number) (q .picture)) (q .inside) i (q .lent)
-        (tooShort (length (q .picture)) (pixels (final s (q .before) .words)))
-        (run-passed (final s (q .before)) (q .lent) (q .number) (q .picture) (q .answer) (q .done))
+        (tooShort (length (q .picture)) (pixels (here .words)))
+        (run-passed here (q .lent) (q .number) (q .picture) (q .answer) (q .done))
         (omega (arith, run-clocks, u .from, u .before)) (x .row) (x .column) (x .on-panel .row) (x .on-panel .column))
         ∙ ap (λ (f : ℕ). frameColour s calls f (q .lent) (x .row) (x .column)) (sym (clock-inside n u .0) ∙ its-frame s n x)
       where
         stored : List ℕ
         stored =
-            stores (colours (final s (q .before)) (q .lent)) (first (final s (q .before)) (q .lent))
-            (many (final s (q .before)) (q .lent) (countOf (final s (q .before)) (q .number))) (q .picture)
+            stores (colours here (q .lent)) (first here (q .lent))
+            (many here (q .lent) (countOf here (q .number))) (q .picture)
 
         offset : ℕ
-        offset = x .row * width (s .words) + x .column - first (final s (q .before)) (q .lent)
+        offset = x .row * width (s .words) + x .column - first here (q .lent)
 
-        place : x .row * width (s .words) + x .column ≡ first (final s (q .before)) (q .lent) + offset
+        place : x .row * width (s .words) + x .column ≡ first here (q .lent) + offset
         place = omega (arith, not-before)
 
-        same-width : width (final s (q .before) .words) ≡ width (s .words)
+        same-width : width (here .words) ≡ width (s .words)
         same-width = ap width (i .alike)
 
   pub run-keeps : (j : ℕ) → ((n : ℕ) (x : PixelAt s n) → RunTakes s calls q n → entryOf s n x ≡ j → ⊥)
@@ -164,23 +169,23 @@ module _ (s : State) (calls : Calls) (q : RunIn s calls) (i : Schedule s (q .bef
   unfolding position-pixel
   run-keeps j none =
       ap (λ (p : List ℕ). getD p j 0) left-is
-      ∙ entry-outside (colours (final s (q .before)) (q .lent)) (first (final s (q .before)) (q .lent))
-      (many (final s (q .before)) (q .lent) (countOf (final s (q .before)) (q .number))) (q .picture) j
+      ∙ entry-outside (colours here (q .lent)) (first here (q .lent))
+      (many here (q .lent) (countOf here (q .number))) (q .picture) j
       (λ k h e. outside
-      (between (timing (s .words)) (taken s (q .before) % frameOf s) (q .answer .count) j (omega (arith, first-is))
+      (between (timing (s .words)) (from % frameOf s) (q .answer .count) j (omega (arith, first-is))
       (omega (arith, first-is, many-is))))
     where
-      outside : Between (timing (s .words)) (taken s (q .before) % frameOf s) (q .answer .count) j → ⊥
+      outside : Between (timing (s .words)) (from % frameOf s) (q .answer .count) j → ⊥
       outside b = none n x u (b .entry)
         where
           n : ℕ
-          n = taken s (q .before) + b .clocks
+          n = from + b .clocks
 
-          u : RunTakes s calls q (taken s (q .before) + b .clocks)
+          u : RunTakes s calls q (from + b .clocks)
           u = record { from = omega arith; before = omega (arith, b .fewer) }
 
-          position : taken s (q .before) % frameOf s + b .clocks ≡ (taken s (q .before) + b .clocks) % frameOf s
-          position = omega (arith, clock-inside (taken s (q .before) + b .clocks) u .1)
+          position : from % frameOf s + b .clocks ≡ (from + b .clocks) % frameOf s
+          position = omega (arith, clock-inside (from + b .clocks) u .1)
 
-          x : PixelAt s (taken s (q .before) + b .clocks)
-          x = position-pixel s (taken s (q .before) + b .clocks) (b .row) (b .column) (rw (← position) (b .at))
+          x : PixelAt s (from + b .clocks)
+          x = position-pixel s (from + b .clocks) (b .row) (b .column) (rw (← position) (b .at))

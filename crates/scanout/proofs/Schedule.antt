@@ -1,21 +1,21 @@
 -- The schedule of the views over a list of calls (document 01, "Clocks and lines"): where the position stands, which view waits, and that
 -- in mid-frame the view in force is the frame's. Assumes nothing.
 use mathlib.Core.Path.{_≡_, refl, sym, ap, ap₂, _∙_}
-use Prim.Native.Nat.{ℕ, zero, suc, _+_, _-_, _*_, _/_, _%_, _<_, _≤_}
+use Prim.Native.Nat.{ℕ, zero, suc, _+_, _*_, _/_, _%_, _<_, _≤_}
 use native.Mathlib.Decide.{ℕ-discrete, decLt}
-use native.Mathlib.Nat.{div-add-mod', mod-lt, mod-eq-of-lt, mod-add-mod, add-mul}
+use native.Mathlib.Nat.{div-add-mod', mod-eq-of-lt, mod-add-mod, add-mul}
 use native.Mathlib.Omega.{arith}
 use lib.Arith.{digits-div, digits-mod}
 use Rattle.panel.specs.Timing.{timing, frameClocks}
 use Rattle.registers.specs.declared.Words.{Words}
 use Rattle.scanout.specs.Calls.{withPending}
 use Rattle.scanout.specs.Core.{moved}
-use Rattle.scanout.specs.Lists.{Call, Calls, nothing, _then_, final, taken, next, clocks, waiting, lastView, frameView}
-use Rattle.scanout.specs.State.{viewOf, withView, frameOf, shownWords, after}
+use Rattle.scanout.specs.Lists.{Call, Calls, nothing, _then_, final, taken, next, clocks, pendingAfter, lastView, frameView}
+use Rattle.scanout.specs.State.{withView, frameOf, shownWords, after}
 use Rattle.scanout.specs.declared.state.State.{State}
 use Rattle.scanout.specs.declared.state.Viewport.{Viewport}
 use Rattle.scanout.proofs.Effects.{Effect, takes, brings, effect}
-use Rattle.scanout.proofs.Fronts.{begins-self, begins-longer, taken-more, frame-view-in-front, frame-view-begins}
+use Rattle.scanout.proofs.Fronts.{begins-self, begins-longer, frame-view-in-front, frame-view-begins}
 use Rattle.scanout.proofs.Views.{Alike, alike-self, alike-with, alike-same, alike-trans, shown-first, shown-later, some-frame, after-moved, window-after, pending-after, alike-after}
 
 pub record Schedule (s : State) (cs : Calls) : Type 0 where
@@ -67,7 +67,7 @@ shows-frame-view s cs c i some = go (ℕ-discrete (taken s cs % frameOf s) 0)
 module _ (s : State) (cs : Calls) (c : Call) (i : Schedule s cs) where
   -- a call that takes clocks
   takes-some : (m : ℕ) → clocks (final s cs) c ≡ m → 0 < m → final s cs .position + m ≤ frameOf (final s cs)
-      → next (final s cs) c ≡ after m (final s cs) → ((v : Viewport) → waiting (final s cs) v c ≡ v) → Schedule s (cs then c)
+      → next (final s cs) c ≡ after m (final s cs) → ((v : Viewport) → pendingAfter (final s cs) v c ≡ v) → Schedule s (cs then c)
   unfolding final taken lastView
   takes-some m counts some room moves stays =
       record {
@@ -107,7 +107,7 @@ module _ (s : State) (cs : Calls) (c : Call) (i : Schedule s cs) where
           go (no h) = absurd (ne (ends-frame (taken s cs) (clocks (final s cs) c) (frameOf s) (some-frame s) (omega (arith, fits, counts))))
 
   -- a call that takes none, and may bring a view
-  stands : next (final s cs) c ≡ withPending (final s cs) (waiting (final s cs) (lastView s cs) c) → clocks (final s cs) c ≡ 0
+  stands : next (final s cs) c ≡ withPending (final s cs) (pendingAfter (final s cs) (lastView s cs) c) → clocks (final s cs) c ≡ 0
       → Schedule s (cs then c)
   unfolding final taken lastView
   stands moves counts =

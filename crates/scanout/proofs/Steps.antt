@@ -1,19 +1,18 @@
 -- What the accepted steps of a list show (document 01, "Clocks and lines"). Assumes nothing.
 use mathlib.Core.Bool.{Bool, true, false, true≢false}
-use mathlib.Core.List.{List}
 use mathlib.Core.Path.{_≡_, refl, sym, ap, ap₂, _∙_}
-use Prim.Native.Nat.{ℕ, _+_, _*_, _/_, _%_, _^_, _<_, _≤_}
-use native.Mathlib.Nat.{div-add-mod', div-mul-le-self}
+use Prim.Native.Nat.{ℕ, _+_, _/_, _%_, _^_, _<_}
+use native.Mathlib.Nat.{div-mul-le-self}
 use native.Mathlib.Omega.{arith}
 use lib.Dec.{ltb}
 use lib.ListN.{length}
-use Rattle.laws.specs.Answers.{Answer, accepted}
+use Rattle.laws.specs.Answers.{accepted}
 use Rattle.drawing.proofs.ColourLines.{colour-lines}
 use Rattle.drawing.specs.Colour.{colour}
 use Rattle.drawing.specs.Drawing.{drawPixel}
 use Rattle.panel.specs.Geometry.{width, height}
 use Rattle.panel.specs.Timing.{Timing, timing, lineClocks}
-use Rattle.registers.specs.Fields.{vspw, hspw, invvframe, invvline, invvden, invvd}
+use Rattle.registers.specs.Fields.{vspw, hspw}
 use Rattle.registers.specs.declared.Words.{Words}
 use Rattle.signals.proofs.Pins.{vsync-in-sync-lines, hsync-in-sync-clocks, vden-at-pixels, colour-read}
 use Rattle.signals.proofs.Positions.{Shows, pixel, blank, shows, at-shows}
@@ -22,7 +21,7 @@ use Rattle.signals.specs.Pixel.{spotAt}
 use Rattle.signals.specs.declared.clock.Clock.{Clock}
 use Rattle.signals.specs.declared.pixel.Spot.{Spot}
 use Rattle.signals.specs.declared.pixel.Spot.the-variants.{Pixel, Blank}
-use Rattle.scanout.specs.Calls.{Lent, spotColour, nextColour, step}
+use Rattle.scanout.specs.Calls.{Lent, spotColour, nextColour}
 use Rattle.scanout.specs.FrameByFrame.{PixelAt, StepIn, frameColour, pixelColour}
 use Rattle.scanout.specs.Lists.{Call, aStep, orElse, Calls, _then_, Begins, final, clocks, taken, frameView}
 use Rattle.scanout.specs.State.{withView, viewOf, frameOf, shownWords}
@@ -66,103 +65,110 @@ next-colour-lines s l = go (spotAt (timing (s .words)) (s .position))
     go Blank = omega arith
 
 module _ (s : State) (calls : Calls) (q : StepIn s calls) (i : Schedule s (q .before)) where
+  -- the state that the call gets, and the number of its first clock
+  abbrev here : State
+  here = final s (q .before)
+
+  abbrev from : ℕ
+  from = taken s (q .before)
+
   -- the words in force differ from the first ones in the view only
-  alike : Alike (shownWords (final s (q .before))) (s .words)
+  alike : Alike (shownWords here) (s .words)
   alike =
-      alike-trans (shownWords (final s (q .before))) (final s (q .before) .words) (s .words) (shown-alike (final s (q .before)))
+      alike-trans (shownWords here) (here .words) (s .words) (shown-alike here)
       (i .alike)
 
-  same-timing : timing (shownWords (final s (q .before))) ≡ timing (s .words)
+  same-timing : timing (shownWords here) ≡ timing (s .words)
   same-timing = ap timing alike
 
   -- so whoever reads the pins by the first words reads them right
   reads : {A : Type 0} (f : Words → Clock → A) → ((w : Words) (v : _) (k : Clock) → f (withView w v) k ≡ f w k)
       → f (s .words) (q .shown .clock)
-      ≡ f (shownWords (final s (q .before)))
-      (clockAt (shownWords (final s (q .before))) (final s (q .before) .position) (nextColour (final s (q .before)) (q .lent)))
+      ≡ f (shownWords here)
+      (clockAt (shownWords here) (here .position) (nextColour here (q .lent)))
   reads f same =
-      ap (f (s .words)) (step-clock (final s (q .before)) (q .lent) (q .shown) (q .done))
-      ∙ sym (same (s .words) (viewOf (shownWords (final s (q .before)))) clock)
+      ap (f (s .words)) (step-clock here (q .lent) (q .shown) (q .done))
+      ∙ sym (same (s .words) (viewOf (shownWords here)) clock)
       ∙ ap (λ (w : Words). f w clock) (sym alike)
     where
       clock : Clock
-      clock = clockAt (shownWords (final s (q .before))) (final s (q .before) .position) (nextColour (final s (q .before)) (q .lent))
+      clock = clockAt (shownWords here) (here .position) (nextColour here (q .lent))
 
-  vden : vdenActive (s .words) (q .shown .clock) ≡ showsPixel (spotAt (timing (s .words)) (taken s (q .before) % frameOf s))
+  vden : vdenActive (s .words) (q .shown .clock) ≡ showsPixel (spotAt (timing (s .words)) (from % frameOf s))
   vden =
       reads vdenActive (λ w v k. refl)
-      ∙ vden-at-pixels (shownWords (final s (q .before))) (final s (q .before) .position) (nextColour (final s (q .before)) (q .lent))
+      ∙ vden-at-pixels (shownWords here) (here .position) (nextColour here (q .lent))
       ∙ ap₂ (λ (t : Timing) (p : ℕ). showsPixel (spotAt t p)) same-timing (i .position)
 
   -- what the clock shows, by its number in the list
   shown-colour : beforeInvvd (s .words) (q .shown .clock)
-      ≡ spotColour (shownWords (final s (q .before))) (final s (q .before) .«window_start») (q .lent)
-      (spotAt (timing (s .words)) (taken s (q .before) % frameOf s))
+      ≡ spotColour (shownWords here) (here .«window_start») (q .lent)
+      (spotAt (timing (s .words)) (from % frameOf s))
   unfolding beforeInvvd nextColour
   shown-colour =
       reads beforeInvvd (λ w v k. refl)
-      ∙ colour-read (shownWords (final s (q .before))) (final s (q .before) .position)
-      (nextColour (final s (q .before)) (q .lent)) (next-colour-lines (final s (q .before)) (q .lent))
-      ∙ ap₂ (λ (t : Timing) (p : ℕ). spotColour (shownWords (final s (q .before))) (final s (q .before) .«window_start») (q .lent) (spotAt t p))
+      ∙ colour-read (shownWords here) (here .position)
+      (nextColour here (q .lent)) (next-colour-lines here (q .lent))
+      ∙ ap₂ (λ (t : Timing) (p : ℕ). spotColour (shownWords here) (here .«window_start») (q .lent) (spotAt t p))
       (ap timing (i .alike)) (i .position)
 
-  pub step-counts : clocks (final s (q .before)) (aStep (q .lent)) ≡ 1
+  pub step-counts : clocks here (aStep (q .lent)) ≡ 1
   unfolding clocks orElse
   step-counts = ap (orElse (λ k. 1) 0) (q .done)
 
-  pub step-shows : (x : PixelAt s (taken s (q .before)))
+  pub step-shows : (x : PixelAt s from)
       → (vdenActive (s .words) (q .shown .clock) ≡ true)
-      × (accepted (beforeInvvd (s .words) (q .shown .clock)) ≡ pixelColour s calls (q .lent) (taken s (q .before)) x)
+      × (accepted (beforeInvvd (s .words) (q .shown .clock)) ≡ pixelColour s calls (q .lent) from x)
   unfolding showsPixel spotColour
   step-shows x = (
     vden ∙ ap showsPixel shows-it,
     ap accepted
         (shown-colour
-        ∙ ap (spotColour (shownWords (final s (q .before))) (final s (q .before) .«window_start») (q .lent)) shows-it)
+        ∙ ap (spotColour (shownWords here) (here .«window_start») (q .lent)) shows-it)
         ∙ sym (frame-colour s calls (q .before) (aStep (q .lent)) (q .inside) i (q .lent) false
-        (step-passed (final s (q .before)) (q .lent) (q .shown) (q .done)) (omega (arith, step-counts)) (x .row) (x .column)
+        (step-passed here (q .lent) (q .shown) (q .done)) (omega (arith, step-counts)) (x .row) (x .column)
         (x .on-panel .row) (x .on-panel .column))
-        ∙ ap (λ (f : ℕ). frameColour s calls f (q .lent) (x .row) (x .column)) (its-frame s (taken s (q .before)) x),
+        ∙ ap (λ (f : ℕ). frameColour s calls f (q .lent) (x .row) (x .column)) (its-frame s from x),
   )
     where
-      shows-it : spotAt (timing (s .words)) (taken s (q .before) % frameOf s) ≡ Pixel (x .row) (x .column)
+      shows-it : spotAt (timing (s .words)) (from % frameOf s) ≡ Pixel (x .row) (x .column)
       shows-it =
-          at-shows (timing (s .words)) (taken s (q .before) % frameOf s) (x .row) (x .column)
-          (pixel-position s (taken s (q .before)) x)
+          at-shows (timing (s .words)) (from % frameOf s) (x .row) (x .column)
+          (pixel-position s from x)
 
-  pub step-blank : (PixelAt s (taken s (q .before)) → ⊥)
+  pub step-blank : (PixelAt s from → ⊥)
       → (vdenActive (s .words) (q .shown .clock) ≡ false) × (beforeInvvd (s .words) (q .shown .clock) ≡ 0)
   unfolding showsPixel spotColour
-  step-blank none = go (shows (timing (s .words)) (taken s (q .before) % frameOf s))
+  step-blank none = go (shows (timing (s .words)) (from % frameOf s))
     where
-      go : Shows (timing (s .words)) (taken s (q .before) % frameOf s)
+      go : Shows (timing (s .words)) (from % frameOf s)
           → (vdenActive (s .words) (q .shown .clock) ≡ false) × (beforeInvvd (s .words) (q .shown .clock) ≡ 0)
-      go (pixel r c a e) = absurd (none (position-pixel s (taken s (q .before)) r c a))
+      go (pixel r c a e) = absurd (none (position-pixel s from r c a))
       go (blank other e) = (
         vden ∙ ap showsPixel e,
-        shown-colour ∙ ap (spotColour (shownWords (final s (q .before))) (final s (q .before) .«window_start») (q .lent)) e,
+        shown-colour ∙ ap (spotColour (shownWords here) (here .«window_start») (q .lent)) e,
       )
 
-  pub step-active : vdenActive (s .words) (q .shown .clock) ≡ true → PixelAt s (taken s (q .before))
+  pub step-active : vdenActive (s .words) (q .shown .clock) ≡ true → PixelAt s from
   unfolding showsPixel
-  step-active active = go (shows (timing (s .words)) (taken s (q .before) % frameOf s))
+  step-active active = go (shows (timing (s .words)) (from % frameOf s))
     where
-      go : Shows (timing (s .words)) (taken s (q .before) % frameOf s) → PixelAt s (taken s (q .before))
-      go (pixel r c a e) = position-pixel s (taken s (q .before)) r c a
+      go : Shows (timing (s .words)) (from % frameOf s) → PixelAt s from
+      go (pixel r c a e) = position-pixel s from r c a
       go (blank other e) = absurd (true≢false (sym active ∙ vden ∙ ap showsPixel e))
 
   pub step-vsync : vsyncActive (s .words) (q .shown .clock)
-      ≡ ltb (taken s (q .before) % frameOf s / lineClocks (timing (s .words))) (vspw (s .words) + 1)
+      ≡ ltb (from % frameOf s / lineClocks (timing (s .words))) (vspw (s .words) + 1)
   step-vsync =
       reads vsyncActive (λ w v k. refl)
-      ∙ vsync-in-sync-lines (shownWords (final s (q .before))) (final s (q .before) .position)
-      (nextColour (final s (q .before)) (q .lent))
+      ∙ vsync-in-sync-lines (shownWords here) (here .position)
+      (nextColour here (q .lent))
       ∙ ap₂ (λ (w : Words) (p : ℕ). ltb (p / lineClocks (timing w)) (vspw w + 1)) alike (i .position)
 
   pub step-hsync : hsyncActive (s .words) (q .shown .clock)
-      ≡ ltb (taken s (q .before) % frameOf s % lineClocks (timing (s .words))) (hspw (s .words) + 1)
+      ≡ ltb (from % frameOf s % lineClocks (timing (s .words))) (hspw (s .words) + 1)
   step-hsync =
       reads hsyncActive (λ w v k. refl)
-      ∙ hsync-in-sync-clocks (shownWords (final s (q .before))) (final s (q .before) .position)
-      (nextColour (final s (q .before)) (q .lent))
+      ∙ hsync-in-sync-clocks (shownWords here) (here .position)
+      (nextColour here (q .lent))
       ∙ ap₂ (λ (w : Words) (p : ℕ). ltb (p % lineClocks (timing w)) (hspw w + 1)) alike (i .position)

@@ -1,7 +1,7 @@
 -- The active clocks of a run are a stretch of the picture (document 01, "Clocks and lines"): what clock by clock would store inside one
 -- frame is what drawing the pixels between two clocks, in reading order, stores. Assumes nothing.
 use mathlib.Core.List.{List}
-use mathlib.Core.Path.{_≡_, refl, sym, ap, ap₂, _∙_}
+use mathlib.Core.Path.{_≡_, sym, ap, ap₂, _∙_}
 use Prim.Native.Nat.{ℕ, zero, suc, _+_, _-_, _*_, _/_, _%_, _<_, _≤_}
 use native.Mathlib.Omega.{arith}
 use lib.Arith.{digits-div, digits-mod}
@@ -10,18 +10,18 @@ use Rattle.laws.specs.Storing.{stores}
 use Rattle.drawing.proofs.LentMemory.{in-order}
 use Rattle.drawing.specs.Colour.{colour}
 use Rattle.drawing.specs.Drawing.{colourInOrder}
-use Rattle.panel.specs.Geometry.{width, height}
+use Rattle.panel.specs.Geometry.{width}
 use Rattle.panel.specs.Timing.{Timing, timing}
 use Rattle.registers.specs.declared.Words.{Words}
 use Rattle.signals.proofs.Positions.{wide, At, Shows, pixel, blank, shows}
 use Rattle.signals.proofs.ReadingOrder.{before-pixel, after-pixel, after-blank, further}
 use Rattle.signals.specs.Pixel.{spotAt, pixelsBefore}
 use Rattle.signals.specs.declared.pixel.Spot.{Spot}
-use Rattle.signals.specs.declared.pixel.Spot.the-variants.{Pixel, Blank}
+use Rattle.signals.specs.declared.pixel.Spot.the-variants.{Pixel}
 use Rattle.scanout.specs.Calls.{Lent, spotColour, nextColour, store, storeNext, drawn}
 use Rattle.scanout.specs.State.{frameOf, shownWords, after}
 use Rattle.scanout.specs.declared.state.State.{State}
-use Rattle.scanout.proofs.Views.{Alike, shown-alike, shown-after, position-after, window-after, alike-after}
+use Rattle.scanout.proofs.Views.{shown-alike, shown-after, position-after, window-after, alike-after}
 
 -- what a clock stores, by the timing, its position, the words that it is shown with and the window start
 storeAt : Timing → ℕ → Words → ℕ → Lent → List ℕ → List ℕ

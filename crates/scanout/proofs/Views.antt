@@ -2,14 +2,13 @@
 -- frame's end, and nothing but the view ever changes in the words. Assumes nothing.
 use mathlib.Core.Bool.{Bool, true, false, cond}
 use mathlib.Core.Path.{_≡_, refl, sym, ap, ap₂, _∙_}
-use Prim.Native.Nat.{ℕ, zero, suc, _+_, _-_, _%_, _<_, _≤_}
-use native.Mathlib.Nat.{mod-eq-of-lt, mod-lt, suc-mod}
-use native.Mathlib.Numerals.{add-one}
+use Prim.Native.Nat.{ℕ, zero, suc, _+_, _%_, _<_, _≤_}
+use native.Mathlib.Nat.{mod-eq-of-lt}
 use native.Mathlib.Omega.{arith}
 use borrow.Author.Tests.{eq-eqb, ne-eqb}
 use lib.Dec.{eqb}
 use Rattle.panel.proofs.Bounds.{frame-clocks-ge}
-use Rattle.panel.specs.Timing.{Timing, timing, frameClocks}
+use Rattle.panel.specs.Timing.{timing, frameClocks}
 use Rattle.registers.specs.declared.Words.{Words}
 use Rattle.scanout.specs.Core.{moved}
 use Rattle.scanout.specs.State.{viewOf, withView, frameOf, shownWords, advance, after}

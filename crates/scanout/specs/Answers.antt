@@ -10,7 +10,7 @@ use Rattle.scanout.specs.declared.state.State.{State}
 use Rattle.scanout.specs.declared.step.Stepped.{Stepped}
 use Rattle.scanout.specs.declared.step.Stepped.the-variants.{Done, Refused as NoStep}
 use Rattle.scanout.specs.declared.viewport.Changed.{Changed}
-use Rattle.scanout.specs.declared.viewport.Changed.the-variants.{Waiting, Refused as NoChange}
+use Rattle.scanout.specs.declared.viewport.Changed.the-variants.{Pending, Refused as NoChange}
 
 -- what a step gives: the levels of its clock and the next state
 pub record Shown : Type 0 where
@@ -35,5 +35,5 @@ ran (Took n s) = accepted (record { count = n; next = s })
 ran (NoRun n) = refused n
 
 abbrev pub changed : Changed → Answer State
-changed (Waiting s) = accepted s
+changed (Pending s) = accepted s
 changed (NoChange n) = refused n

@@ -2,7 +2,7 @@
 -- taken make frame after frame; each panel pixel appears exactly at the clock that the formula gives, with its colour under the
 -- frame's view; every other clock is blank". One record holds the whole claim; proofs/FrameByFrame proves it of every list and of
 -- every state at position 0. "Each may be lent any memory, palette and picture." Assumes nothing.
-use mathlib.Core.Bool.{Bool, true, false}
+use mathlib.Core.Bool.{true, false}
 use mathlib.Core.List.{List}
 use mathlib.Core.Path.{_≡_}
 use Prim.Native.Nat.{ℕ, zero, suc, _+_, _-_, _*_, _/_, _%_, min, _<_, _≤_}
@@ -16,7 +16,6 @@ use Rattle.registers.specs.Fields.{vspw, hspw}
 use Rattle.registers.specs.declared.Words.{Words}
 use Rattle.signals.specs.Clock.{vsyncActive, hsyncActive, vdenActive, beforeInvvd}
 use Rattle.signals.specs.Pixel.{pixelClock}
-use Rattle.signals.specs.declared.clock.Clock.{Clock}
 use Rattle.scanout.specs.Answers.{Shown, Taken}
 use Rattle.scanout.specs.Calls.{Lent, start, step, run}
 use Rattle.scanout.specs.Lists.{Call, aStep, aRun, lentTo, refusal, Calls, nothing, _then_, Begins, final, taken, lastView, pictureLeft, frameView}
@@ -96,6 +95,11 @@ pub record Takes (s : State) (calls : Calls) (n : ℕ) : Type 0 where
   pub from : taken s before ≤ n
   pub past : n < taken s (before then call)
 
+-- an accepted step or run that takes clock n
+pub data TakenBy (s : State) (calls : Calls) (n : ℕ) : Type 0 where
+  by-step : (q : StepIn s calls) → taken s (q .before) ≡ n → TakenBy s calls n
+  by-run : (q : RunIn s calls) → RunTakes s calls q n → TakenBy s calls n
+
 -- "the calls that take clocks of one frame are lent the same memory and palette"
 abbrev pub SameLent : State → Calls → Type 0
 SameLent s calls =
@@ -150,9 +154,10 @@ pub record FrameByFrame (s : State) (calls : Calls) : Type 0 where
       × ((p : List ℕ) → pictureLeft s p (before then c) ≡ pictureLeft s p before)
   pub refused-keeps : (before : Calls) (l : Lent) (n : ℕ) (picture : List ℕ) → Begins (before then aRun l n picture) calls
       → (refusal (final s before) (aRun l n picture) ≡ 0 → ⊥) → run (final s before) l n picture .left ≡ picture
-  -- every clock below their number is taken, by one call
+  -- every clock below their number is taken, by one call, and that is an accepted step or run
   pub each-clock : (n : ℕ) → n < taken s calls → Takes s calls n
   pub once : (n : ℕ) (p q : Takes s calls n) → (p .before then p .call) ≡ (q .before then q .call)
+  pub by-which : (n : ℕ) → Takes s calls n → TakenBy s calls n
   -- a pixel's clock lies in its frame, and is no other pixel's
   pub pixel-in-frame : (f r c : ℕ) → OnPanel (s .words) r c → InFrame s f (pixelTime s f r c)
   pub one-pixel : (n : ℕ) (x y : PixelAt s n) → (x .frame ≡ y .frame) × (x .row ≡ y .row) × (x .column ≡ y .column)

@@ -4,11 +4,10 @@ use mathlib.Core.Bool.{cond}
 use mathlib.Core.List.{List, []}
 use mathlib.Core.Logic.{_⊎_}
 use mathlib.Core.Path.{_≡_}
-use Prim.Native.Nat.{ℕ, _+_, _*_, _<_, _≤_}
+use Prim.Native.Nat.{ℕ, _+_, _*_}
 use lib.Dec.{ltb}
 use Rattle.laws.specs.Answers.{Answer, accepted, refused}
-use Rattle.scanout.specs.Answers.{Shown, Taken}
-use Rattle.scanout.specs.Calls.{Lent, step, Run, run, change}
+use Rattle.scanout.specs.Calls.{Lent, step, run, change}
 use Rattle.scanout.specs.State.{frameOf}
 use Rattle.scanout.specs.declared.state.State.{State}
 use Rattle.scanout.specs.declared.state.Viewport.{Viewport}
@@ -55,10 +54,10 @@ clocks s (aRun l n picture) = orElse (λ t. t .count) 0 (run s l n picture .answ
 clocks s (aChange memory v) = 0
 
 -- the view that waits after a call, v before it: an accepted change brings another
-unfoldable pub waiting : State → Viewport → Call → Viewport
-waiting s v (aStep l) = v
-waiting s v (aRun l n picture) = v
-waiting s v (aChange memory new) = orElse (λ t. new) v (change s memory new)
+unfoldable pub pendingAfter : State → Viewport → Call → Viewport
+pendingAfter s v (aStep l) = v
+pendingAfter s v (aRun l n picture) = v
+pendingAfter s v (aChange memory new) = orElse (λ t. new) v (change s memory new)
 
 -- the one picture lent to all accepted runs, as it is after a call
 unfoldable pub pictureAfter : State → List ℕ → Call → List ℕ
@@ -91,7 +90,7 @@ taken s (cs then c) = taken s cs + clocks (final s cs) c
 -- the view that waits after it: the last accepted, or the state's own
 unfoldable pub lastView : State → Calls → Viewport
 lastView s nothing = s .pending
-lastView s (cs then c) = waiting (final s cs) (lastView s cs) c
+lastView s (cs then c) = pendingAfter (final s cs) (lastView s cs) c
 
 -- the picture that the accepted runs leave, p at first
 unfoldable pub pictureLeft : State → List ℕ → Calls → List ℕ

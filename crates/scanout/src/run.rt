@@ -1,10 +1,10 @@
 // Many clocks of one frame.
 ghost use mathlib.Core.Path.{_≡_};
-ghost use Prim.Native.Nat.{_+_, _<_, _≤_};
+ghost use Prim.Native.Nat.{_+_, _≤_};
 ghost use lib.ListN.{length};
 ghost use Rattle.drawing.specs.Drawing.{tooShort, pixels};
 ghost use Rattle.scanout.specs.Answers.{ran};
-ghost use Rattle.scanout.specs.Calls.{countOf, Run, run, drawn};
+ghost use Rattle.scanout.specs.Calls.{countOf, run, drawn};
 ghost use Rattle.scanout.specs.Core.{lending, running};
 ghost use Rattle.scanout.specs.Refusals.{judgeScan};
 ghost use Rattle.scanout.specs.State.{frameOf};

@@ -8,7 +8,7 @@ use super::state::Viewport;
 
 // The state in which the new viewport waits, or a refusal's number.
 pub enum Changed {
-    Waiting(State),
+    Pending(State),
     Refused(u32),
 }
 
@@ -22,7 +22,7 @@ pub fn change_viewport(s: State, video: &[u32], v: Viewport) -> Changed
         return Changed::Refused(refusal);
     }
     let words = s.words;
-    Changed::Waiting(State {
+    Changed::Pending(State {
         words,
         window_start: s.window_start,
         pending: v,

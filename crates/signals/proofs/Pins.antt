@@ -1,7 +1,7 @@
 -- What the pins say when they are read (document 01, "Clocks and lines"): the levels and the data word at a position give back which
 -- parts it lies in and the colour before INVVD, whatever the bits that exchange them. Assumes nothing.
 use mathlib.Core.Bool.{Bool, true, false, cond}
-use mathlib.Core.Path.{_≡_, refl, ap, _∙_}
+use mathlib.Core.Path.{_≡_, refl, _∙_}
 use Prim.Native.Nat.{ℕ, zero, suc, _+_, _-_, _/_, _%_, _^_, _<_}
 use native.Mathlib.Nat.{mod-eq-of-lt}
 use native.Mathlib.Omega.{arith}
@@ -12,7 +12,6 @@ use Rattle.registers.specs.declared.Words.{Words}
 use Rattle.signals.specs.Clock.{level, dataWord, inSync, showsPixel, clockAt, isActive, vsyncActive, hsyncActive, vdenActive, beforeInvvd}
 use Rattle.signals.specs.Parts.{partAt, linePart, clockPart, linesBefore, clocksBefore}
 use Rattle.signals.specs.Pixel.{spotAt}
-use Rattle.signals.specs.declared.parts.Part.{Part}
 use Rattle.signals.specs.declared.parts.Part.the-variants.{Sync, BackPorch, Active, FrontPorch}
 
 level-read : (invert : ℕ) (active : Bool) → invert < 2 → isActive invert (level invert active) ≡ active

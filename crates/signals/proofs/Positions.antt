@@ -4,7 +4,7 @@ use mathlib.Core.Bool.{Bool, true, false, cond}
 use mathlib.Core.Path.{_≡_, refl, sym, ap, ap₂, _∙_}
 use Prim.Native.Nat.{ℕ, _+_, _-_, _*_, _/_, _%_, _<_, _≤_}
 use native.Mathlib.Decide.{decLt}
-use native.Mathlib.Nat.{div-add-mod', mod-lt}
+use native.Mathlib.Nat.{div-add-mod'}
 use native.Mathlib.Omega.{arith}
 use borrow.Author.Tests.{lt-ltb, le-ltb}
 use lib.Arith.{digits-div, digits-mod, digits-lt}
@@ -14,7 +14,6 @@ use Rattle.signals.specs.Parts.{partAt, linesBefore, clocksBefore, lineP
 use Rattle.signals.specs.Pixel.{inRow, spotOf, spotAt, pixelClock}
 use Rattle.signals.specs.declared.parts.Part.{Part}
 use Rattle.signals.specs.declared.parts.Part.the-variants.{Sync, BackPorch, Active, FrontPorch}
-use Rattle.signals.specs.declared.pixel.Spot.{Spot}
 use Rattle.signals.specs.declared.pixel.Spot.the-variants.{Pixel, Blank}
 
 -- ---- where a number lies: ahead of the active ones, among them, or past them

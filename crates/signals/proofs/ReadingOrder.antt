@@ -1,18 +1,16 @@
 -- The pixels of a frame come in reading order (document 01, "Clocks and lines"): before the clock of the pixel in row r, column c
 -- come r × W + c pixels, one more after it, and a blank clock adds none. Assumes nothing.
 use mathlib.Core.Path.{_≡_, refl, sym, ap, ap₂, _∙_}
-use Prim.Native.Nat.{ℕ, zero, suc, _+_, _-_, _*_, _/_, _%_, _<_, _≤_, min}
-use native.Mathlib.Decide.{decLt, decLe}
+use Prim.Native.Nat.{ℕ, zero, suc, _+_, _-_, _*_, _/_, _%_, _<_, _≤_}
+use native.Mathlib.Decide.{decLt}
 use native.Mathlib.Nat.{div-add-mod', mod-lt, add-mul, mul-le-mul-right, le-of-eq}
 use native.Mathlib.Omega.{arith}
 use borrow.Author.Tests.{lt-ltb, le-ltb}
 use lib.Arith.{digits-div, digits-mod}
 use Rattle.panel.specs.Timing.{Timing, lineClocks}
 use Rattle.signals.specs.Parts.{linesBefore, clocksBefore}
-use Rattle.signals.specs.Pixel.{spotAt, pixelClock, columnsBefore, pixelsInLines, pixelsBefore}
-use Rattle.signals.specs.declared.pixel.Spot.{Spot}
-use Rattle.signals.specs.declared.pixel.Spot.the-variants.{Pixel, Blank}
-use Rattle.signals.proofs.Positions.{Lies, ahead, among, past, lies, wide, high, line-room, some-clocks, At, Shows, pixel, blank, shows, at-pixel-clock, at-is-pixel-clock, pixel-clock-shows}
+use Rattle.signals.specs.Pixel.{pixelClock, columnsBefore, pixelsInLines, pixelsBefore}
+use Rattle.signals.proofs.Positions.{Lies, ahead, among, past, lies, wide, high, line-room, some-clocks, At, Shows, pixel, blank, shows, at-pixel-clock}
 
 -- ---- pixels before a clock of a line, by where the line lies
 

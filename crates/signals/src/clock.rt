@@ -1,5 +1,4 @@
 // The levels of the four signals at a clock.
-ghost use mathlib.Core.Bool.{Bool};
 ghost use mathlib.Core.Path.{_≡_};
 ghost use Rattle.signals.specs.Clock.{level, dataWord, inSync, showsPixel, clockAt};
 use super::parts::Part;

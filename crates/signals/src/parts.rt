@@ -1,6 +1,5 @@
 // The parts of a line and of a frame.
 ghost use mathlib.Core.Path.{_≡_};
-ghost use Prim.Native.Nat.{_+_};
 ghost use Rattle.panel.specs.Timing.{timing};
 ghost use Rattle.signals.specs.Parts.{partAt, linesBefore, clocksBefore, linePart, clockPart};
 use panel::geometry::height;

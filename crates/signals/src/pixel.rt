@@ -1,6 +1,6 @@
 // The pixel of a position, and how many pixels come before it.
 ghost use mathlib.Core.Path.{_≡_};
-ghost use Prim.Native.Nat.{_+_, _*_, _≤_};
+ghost use Prim.Native.Nat.{_≤_};
 ghost use Rattle.panel.specs.Timing.{timing};
 ghost use Rattle.signals.specs.Pixel.{spotAt, columnsBefore, pixelsInLines, pixelsBefore};
 use super::parts::Part;

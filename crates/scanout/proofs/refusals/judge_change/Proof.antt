@@ -54,12 +54,12 @@ past-9 c = skips _ _ _ _ (past-views (c .before .before .before)) (ne-eqb _ _ (�
 returns-3 : tie.Need-returns-3
 returns-3 c =
     stops _ _ _ _ (past-9 (c .before .before .before))
-    (rw (← c .before .before .bank-differs .ensures, ← c .before .bank-differs2 .ensures) (c .if3 .taken))
+    (sym (ap₂ _||_ (c .before .before .bank-differs .ensures) (c .before .bank-differs2 .ensures)) ∙ c .if3 .taken)
 
 past-13 : (c : tie.Else3) → Past 2 (c .before .before .before .before .before .before .before .before .before .before)
 past-13 c =
     skips _ _ _ _ (past-9 (c .before .before .before))
-    (rw (← c .before .before .bank-differs .ensures, ← c .before .bank-differs2 .ensures) (c .if3 .left))
+    (sym (ap₂ _||_ (c .before .before .bank-differs .ensures) (c .before .bank-differs2 .ensures)) ∙ c .if3 .left)
 
 returns-4 : tie.Need-returns-4
 returns-4 c = stops _ _ _ _ (past-13 (c .before .before)) (sym (c .before .past-frame .ensures) ∙ c .if4 .taken)

@@ -1,15 +1,11 @@
 -- `scanout::run::draw_clocks` meets its contract. Assumes nothing.
-use mathlib.Core.List.{List}
-use mathlib.Core.Path.{_≡_, sym, ap, ap₂, _∙_}
-use Prim.Native.Nat.{ℕ, _+_, _-_}
+use mathlib.Core.Path.{ap, _∙_}
+use Prim.Native.Nat.{_+_}
 use native.Mathlib.Omega.{arith}
 use borrow.Author.Needs.{needs}
-use lib.ListN.{length}
 use Rattle.laws.specs.Answers.{Outcome}
-use Rattle.drawing.specs.Drawing.{drawStretch}
 use Rattle.panel.proofs.Bounds.{frame-clocks-le}
 use Rattle.panel.specs.Timing.{timing}
-use Rattle.registers.specs.declared.Words.{Words}
 use Rattle.signals.proofs.ReadingOrder.{further}
 use Rattle.scanout.specs.Core.{lending}
 use Rattle.scanout.proofs.Acceptance.{passed}

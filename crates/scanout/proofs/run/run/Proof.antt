@@ -1,13 +1,10 @@
 -- `scanout::run::run` meets its contract. Assumes nothing.
-use mathlib.Core.List.{List}
 use mathlib.Core.Path.{_≡_, refl, sym, ap, ap₂, _∙_}
 use Prim.Native.Nat.{ℕ, _+_, _<_, _≤_}
 use native.Mathlib.Omega.{arith}
 use borrow.Author.Needs.{needs}
-use lib.ListN.{length}
-use Rattle.laws.specs.Answers.{Answer, Outcome, gives-refusal, gives-answer, leaves-as-it-was, leaves-written}
-use Rattle.drawing.specs.Drawing.{tooShort, pixels}
-use Rattle.scanout.specs.Answers.{Taken}
+use Rattle.laws.specs.Answers.{Outcome, gives-refusal, gives-answer, leaves-as-it-was, leaves-written}
+use Rattle.drawing.specs.Drawing.{tooShort}
 use Rattle.scanout.specs.Calls.{countOf, drawn, judgeRun, run}
 use Rattle.scanout.specs.Core.{lending, running}
 use Rattle.scanout.specs.State.{frameOf, after}

@@ -1,11 +1,10 @@
 -- `scanout::state::moved` meets its contract. Assumes nothing.
-use mathlib.Core.Path.{_≡_, sym, ap, ap₂, _∙_}
+use mathlib.Core.Path.{_≡_, ap, ap₂, _∙_}
 use Prim.Native.Nat.{ℕ, _+_, _%_}
 use native.Mathlib.Omega.{arith}
 use Rattle.panel.specs.Timing.{timing, frameClocks}
 use Rattle.registers.specs.declared.Words.{Words}
 use Rattle.scanout.specs.State.{frameOf}
-use Rattle.scanout.specs.declared.state.State.{State}
 use Rattle.scanout.proofs.Views.{shown-frame, some-frame}
 use Rattle.scanout.proofs.state.moved.Statement.{statement}
 use Rattle.scanout.proofs.state.moved.Tie as tie

@@ -1,23 +1,21 @@
 -- `scanout::step::step` meets its contract. Assumes nothing.
 use mathlib.Core.Bool.{false}
-use mathlib.Core.Path.{_≡_, refl, sym, ap, ap₂, _∙_}
+use mathlib.Core.Path.{_≡_, sym, ap, ap₂, _∙_}
 use Prim.Native.Nat.{ℕ}
 use native.Mathlib.Omega.{arith}
 use borrow.Author.Needs.{needs}
 use lib.ListN.{length}
 use Rattle.laws.specs.Answers.{Answer, accepted, refused, gives-refusal, gives-answer}
 use Rattle.drawing.specs.Drawing.{drawn}
-use Rattle.drawing.specs.declared.pixel.Drawn.{Drawn}
 use Rattle.panel.specs.Timing.{timing}
 use Rattle.registers.specs.declared.Words.{Words}
 use Rattle.signals.specs.Clock.{clockAt}
 use Rattle.signals.specs.Pixel.{spotAt}
 use Rattle.signals.specs.declared.clock.Clock.{Clock}
 use Rattle.signals.specs.declared.pixel.Spot.{Spot}
-use Rattle.scanout.specs.Answers.{Shown}
 use Rattle.scanout.specs.Calls.{Lent, judgeStep, nextColour, step}
 use Rattle.scanout.specs.Core.{lending, spotDrawn}
-use Rattle.scanout.specs.State.{shownWords, advance}
+use Rattle.scanout.specs.State.{advance}
 use Rattle.scanout.specs.declared.state.State.{State}
 use Rattle.scanout.proofs.Acceptance.{Passed, passed}
 use Rattle.scanout.proofs.Drawings.{spot-drawn}

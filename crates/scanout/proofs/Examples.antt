@@ -1,0 +1,102 @@
+-- The scan of T1's panel, clock by clock, and some clocks of T8's (document 01, "Clocks and lines"): the levels, the frame's length and the
+-- formula stand in the claim and in the machine alike, so they are held against numbers worked out by hand here. Assumes nothing.
+use mathlib.Core.List.{List, [], _∷_, _++_}
+use mathlib.Core.Path.{_≡_, refl}
+use Prim.Native.Nat.{ℕ, zero, suc}
+use lib.ListN.{replicate}
+use Rattle.laws.specs.Answers.{Answer, accepted, refused, judged, outcome}
+use Rattle.laws.specs.Booleans.{someBelow}
+use Rattle.laws.specs.Cases.{lowest, lower}
+use Rattle.drawing.specs.Colour.{storedPixel, rowColour, colour}
+use Rattle.drawing.specs.Drawing.{videoOff, paletteWrong, tooShort}
+use Rattle.memory.specs.Memory.{outsideMemory, wordOutside, rowAddress, firstWord}
+use Rattle.panel.specs.Geometry.{storedBits, outsideModes, rowOffset}
+use Rattle.panel.specs.Refusals.{notTft, noSuchMode, swapsIllegal, rowSizeWrong, endDiffers, pastBank}
+use Rattle.panel.specs.Timing.{timing, lineClocks, frameLines, frameClocks}
+use Rattle.pixels.specs.Colours.{cut24}
+use Rattle.pixels.specs.Format.{format}
+use Rattle.pixels.specs.Order as Order
+use Rattle.pixels.specs.Pixel.{shown}
+use Rattle.registers.specs.Fields.{reservedBit}
+use Rattle.registers.specs.Loading.{inOrder}
+use Rattle.signals.specs.Clock.{level, dataWord, inSync, showsPixel, clockAt}
+use Rattle.signals.specs.Parts.{partAt, linePart, clockPart}
+use Rattle.signals.specs.Pixel.{inRow, spotOf, spotAt, pixelClock}
+use Rattle.signals.specs.declared.pixel.Spot.the-variants.{Pixel, Blank}
+use Rattle.scanout.specs.Answers.{Shown}
+use Rattle.scanout.specs.Calls.{Lent, begun, spotColour, nextColour, judgeStep, step, countOf, store, storeNext, drawn, judgeRun, run}
+use Rattle.scanout.specs.Lists.{aStep, orElse, next}
+use Rattle.scanout.specs.Refusals.{bankDiffers, pastFrame, judgeScan}
+use Rattle.scanout.specs.State.{shownWords, advance, after}
+use Rattle.scanout.specs.declared.state.State.{State}
+
+-- ---- T1: one column, two rows, at 24 bits; every part of a line and of a frame but the two rows is 1 long
+
+-- its words, with LCDCON5
+abbrev t1 : ℕ → List ℕ
+t1 lcdcon5 = 0x7B ∷ 0x4000 ∷ 0 ∷ 0 ∷ lcdcon5 ∷ 0x18000000 ∷ 4 ∷ 2 ∷ 0 ∷ []
+
+abbrev began : ℕ → State
+began lcdcon5 = begun (inOrder (t1 lcdcon5)) 0x30000000
+
+abbrev lent : Lent
+lent = record { memory = 0x00112233 ∷ 0x00AABBCC ∷ []; palette = replicate 256 0 }
+
+-- VSYNC, HSYNC, VDEN and the data word of so many clocks
+abbrev levels : Answer Shown → List ℕ
+levels (accepted k) = k .clock .vsync ∷ k .clock .hsync ∷ k .clock .vden ∷ k .clock .vd ∷ []
+levels (refused n) = []
+
+abbrev clocksOf : ℕ → State → List ℕ
+clocksOf zero s = []
+clocksOf (suc n) s = levels (step s lent) ++ clocksOf n (next s (aStep lent))
+
+-- a line of four clocks, HSYNC in the first, a pixel (or nothing) at the third
+abbrev line : ℕ → ℕ → ℕ → List ℕ
+line vsync vden vd =
+    vsync ∷ 1 ∷ 0 ∷ 0 ∷ vsync ∷ 0 ∷ 0 ∷ 0 ∷ vsync ∷ 0 ∷ vden ∷ vd ∷ vsync ∷ 0 ∷ 0 ∷ 0 ∷ []
+
+-- the same with HSYNC and VDEN exchanged and the data complemented
+abbrev exchanged : ℕ → ℕ → ℕ → List ℕ
+exchanged vsync vden vd =
+    vsync ∷ 0 ∷ 1 ∷ 0xFFFFFF ∷ vsync ∷ 1 ∷ 1 ∷ 0xFFFFFF ∷ vsync ∷ 1 ∷ vden ∷ vd ∷ vsync ∷ 1 ∷ 1 ∷ 0xFFFFFF ∷ []
+
+-- a frame: a line of sync, one of back porch, two with a pixel, one of front porch; then with INVVFRAME, INVVLINE, INVVDEN and INVVD
+pub record T1Scan : Type 0 where
+  pub frame : clocksOf 20 (began 0)
+      ≡ line 1 0 0 ++ line 0 0 0 ++ line 0 1 0x112233 ++ line 0 1 0xAABBCC ++ line 0 0 0
+  pub inverted : clocksOf 20 (began 0x3C0)
+      ≡ exchanged 0 1 0xFFFFFF ++ exchanged 1 1 0xFFFFFF ++ exchanged 1 0 0xEEDDCC ++ exchanged 1 0 0x554433
+      ++ exchanged 1 1 0xFFFFFF
+  -- a run of the whole frame; of its clocks up to the first pixel's; and of the rest, where more are asked for
+  pub whole : run (began 0) lent 20 (7 ∷ 8 ∷ 9 ∷ [])
+      ≡ record {
+        answer = accepted (record { count = 20; next = began 0 });
+        left = 0x112233 ∷ 0xAABBCC ∷ 9 ∷ [];
+      }
+  pub front : run (began 0) lent 11 (7 ∷ 8 ∷ 9 ∷ [])
+      ≡ record { answer = accepted (record { count = 11; next = after 11 (began 0) }); left = 0x112233 ∷ 8 ∷ 9 ∷ [] }
+  pub back : run (after 11 (began 0)) lent 100 (7 ∷ 8 ∷ 9 ∷ [])
+      ≡ record { answer = accepted (record { count = 9; next = began 0 }); left = 7 ∷ 0xAABBCC ∷ 9 ∷ [] }
+
+pub t1-scan : T1Scan
+unfolding step judged judgeStep judgeScan lowest lower reservedBit notTft noSuchMode outsideModes swapsIllegal storedBits rowSizeWrong endDiffers pastBank rowOffset outsideMemory wordOutside rowAddress someBelow videoOff paletteWrong bankDiffers pastFrame lineClocks frameLines frameClocks clockAt level dataWord inSync showsPixel partAt linePart clockPart inRow spotOf spotAt spotColour nextColour shownWords advance next orElse colour rowColour storedPixel format cut24 shown firstWord Order.inOrder Order.pixelBits run judgeRun tooShort outcome countOf drawn store storeNext after
+t1-scan = record { frame = refl; inverted = refl; whole = refl; front = refl; back = refl }
+
+-- ---- T8: 4 lines come before the first row, 30 clocks before the first column, and a line has 280
+
+abbrev t8 : List ℕ
+t8 = 0x479 ∷ 0x014FC041 ∷ 0x0098EF09 ∷ 0x9 ∷ 0xB09 ∷ 0x18000000 ∷ 0x12C00 ∷ 0xF0 ∷ 0 ∷ []
+
+pub record T8Clocks : Type 0 where
+  pub first : pixelClock (timing (inOrder t8)) 0 0 ≡ 1150
+  pub last : pixelClock (timing (inOrder t8)) 319 239 ≡ 90709
+  pub shows-first : spotAt (timing (inOrder t8)) 1150 ≡ Pixel 0 0
+  pub before-first : spotAt (timing (inOrder t8)) 1149 ≡ Blank
+  pub shows-last : spotAt (timing (inOrder t8)) 90709 ≡ Pixel 319 239
+  pub after-last : spotAt (timing (inOrder t8)) 90710 ≡ Blank
+
+pub t8-clocks : T8Clocks
+unfolding pixelClock lineClocks partAt linePart clockPart inRow spotOf spotAt
+t8-clocks =
+    record { first = refl; last = refl; shows-first = refl; before-first = refl; shows-last = refl; after-last = refl }
