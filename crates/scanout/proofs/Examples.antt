@@ -19,7 +19,7 @@ use Rattle.pixels.specs.Order as Order
 use Rattle.pixels.specs.Pixel.{shown}
 use Rattle.registers.specs.Fields.{reservedBit}
 use Rattle.registers.specs.Loading.{inOrder}
-use Rattle.signals.specs.Clock.{level, dataWord, inSync, showsPixel, clockAt}
+use Rattle.signals.specs.Clock.{level, dataWord, inSync, showsPixel, clockOf, clockAt}
 use Rattle.signals.specs.Parts.{partAt, linePart, clockPart}
 use Rattle.signals.specs.Pixel.{inRow, spotOf, spotAt, pixelClock}
 use Rattle.signals.specs.declared.pixel.Spot.the-variants.{Pixel, Blank}
@@ -80,7 +80,7 @@ pub record T1Scan : Type 0 where
       ≡ record { answer = accepted (record { count = 9; next = began 0 }); left = 7 ∷ 0xAABBCC ∷ 9 ∷ [] }
 
 pub t1-scan : T1Scan
-unfolding step judged judgeStep judgeScan lowest lower reservedBit notTft noSuchMode outsideModes swapsIllegal storedBits rowSizeWrong endDiffers pastBank rowOffset outsideMemory wordOutside rowAddress someBelow videoOff paletteWrong bankDiffers pastFrame lineClocks frameLines frameClocks clockAt level dataWord inSync showsPixel partAt linePart clockPart inRow spotOf spotAt spotColour nextColour shownWords advance next orElse colour rowColour storedPixel format cut24 shown firstWord Order.inOrder Order.pixelBits run judgeRun tooShort outcome countOf drawn store storeNext after
+unfolding step judged judgeStep judgeScan lowest lower reservedBit notTft noSuchMode outsideModes swapsIllegal storedBits rowSizeWrong endDiffers pastBank rowOffset outsideMemory wordOutside rowAddress someBelow videoOff paletteWrong bankDiffers pastFrame lineClocks frameLines frameClocks clockOf clockAt level dataWord inSync showsPixel partAt linePart clockPart inRow spotOf spotAt spotColour nextColour shownWords advance next orElse colour rowColour storedPixel format cut24 shown firstWord Order.inOrder Order.pixelBits run judgeRun tooShort outcome countOf drawn store storeNext after
 t1-scan = record { frame = refl; inverted = refl; whole = refl; front = refl; back = refl }
 
 -- ---- T8: 4 lines come before the first row, 30 clocks before the first column, and a line has 280

@@ -12,9 +12,10 @@ use drawing::pixel::Drawn;
 use drawing::pixel::draw_pixel;
 use registers::Words;
 use signals::clock::Clock;
-use signals::clock::clock_at;
+use signals::clock::clock_of;
+use signals::parts::parts_at;
 use signals::pixel::Spot;
-use signals::pixel::spot_at;
+use signals::pixel::spot_of;
 
 // A clock's levels and the next state, or a refusal's number.
 pub enum Stepped {
@@ -42,8 +43,9 @@ pub fn step(s: State, video: &[u32], palette: &[u16]) -> Stepped
         return Stepped::Refused(refusal);
     }
     let w = shown_words(s);
-    match draw_spot(w, s.window_start, video, palette, spot_at(w, s.position)) {
-        Drawn::Colour(v) => Stepped::Done(clock_at(w, s.position, v), moved(s, 1)),
+    let parts = parts_at(w, s.position);
+    match draw_spot(w, s.window_start, video, palette, spot_of(parts)) {
+        Drawn::Colour(v) => Stepped::Done(clock_of(w, parts, v), moved(s, 1)),
         Drawn::Refused(n) => Stepped::Refused(n),
     }
 }

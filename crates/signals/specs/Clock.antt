@@ -6,7 +6,7 @@ use Rattle.panel.specs.Timing.{timing}
 use Rattle.registers.specs.Fields.{invvframe, invvline, invvden, invvd}
 use Rattle.registers.specs.declared.Words.{Words}
 use Rattle.signals.specs.Parts.{linePart, clockPart}
-use Rattle.signals.specs.Pixel.{spotAt}
+use Rattle.signals.specs.Pixel.{spotOf}
 use Rattle.signals.specs.declared.clock.Clock.{Clock}
 use Rattle.signals.specs.declared.parts.Part.{Part}
 use Rattle.signals.specs.declared.parts.Part.the-variants.{Sync, BackPorch, Active, FrontPorch}
@@ -32,15 +32,19 @@ showsPixel (Pixel r c) = true
 showsPixel Blank = false
 
 -- "VSYNC is active through all sync lines, HSYNC through the sync clocks of every line, VDEN where line and clock are both active."
--- The data word is of the position's colour before INVVD.
-unfoldable pub clockAt : Words → ℕ → ℕ → Clock
-clockAt w p colour =
+-- By the parts in which line and clock lie; the data word is of the clock's colour before INVVD.
+unfoldable pub clockOf : Words → Part → Part → ℕ → Clock
+clockOf w line clock colour =
     record {
-      vsync = level (invvframe w) (inSync (linePart (timing w) p));
-      hsync = level (invvline w) (inSync (clockPart (timing w) p));
-      vden = level (invvden w) (showsPixel (spotAt (timing w) p));
+      vsync = level (invvframe w) (inSync line);
+      hsync = level (invvline w) (inSync clock);
+      vden = level (invvden w) (showsPixel (spotOf line clock));
       vd = dataWord (invvd w) colour;
     }
+
+-- the levels at a position
+unfoldable pub clockAt : Words → ℕ → ℕ → Clock
+clockAt w p colour = clockOf w (linePart (timing w) p) (clockPart (timing w) p) colour
 
 -- ---- reading the pins
 

@@ -5,6 +5,7 @@ use Prim.Native.Nat.{ℕ, _+_, _-_, _/_, _%_}
 use lib.Dec.{ltb}
 use Rattle.panel.specs.Timing.{Timing, lineClocks}
 use Rattle.signals.specs.declared.parts.Part.{Part}
+use Rattle.signals.specs.declared.parts.Parts.{Parts}
 use Rattle.signals.specs.declared.parts.Part.the-variants.{Sync, BackPorch, Active, FrontPorch}
 
 -- the part of the n-th: the first `sync` are sync, all below `before` come ahead of the active ones; an active one is known by its
@@ -28,3 +29,7 @@ linePart t p = partAt (t .vspw + 1) (linesBefore t) (t .lineval + 1) (p / lineCl
 -- the part of its line in which a position lies
 unfoldable pub clockPart : Timing → ℕ → Part
 clockPart t p = partAt (t .hspw + 1) (clocksBefore t) (t .hozval + 1) (p % lineClocks t)
+
+-- both
+abbrev pub partsAt : Timing → ℕ → Parts
+partsAt t p = record { line = linePart t p; clock = clockPart t p }

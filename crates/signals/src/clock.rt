@@ -1,11 +1,10 @@
 // The levels of the four signals at a clock.
 ghost use mathlib.Core.Path.{_≡_};
-ghost use Rattle.signals.specs.Clock.{level, dataWord, inSync, showsPixel, clockAt};
+ghost use Rattle.signals.specs.Clock.{level, dataWord, inSync, showsPixel, clockOf};
 use super::parts::Part;
-use super::parts::clock_part;
-use super::parts::line_part;
+use super::parts::Parts;
 use super::pixel::Spot;
-use super::pixel::spot_at;
+use super::pixel::spot_of;
 use registers::Words;
 
 // The levels at one clock: VSYNC, HSYNC and VDEN are 0 or 1, VD has the 24 data lines.
@@ -53,14 +52,16 @@ fn shows_pixel(spot: Spot) -> bool
     }
 }
 
-// The levels at a position whose colour, before INVVD, is given.
-pub fn clock_at(w: Words, position: u32, colour: u32) -> Clock
-    ensures { λ r. ⌜ r ≡ clockAt w position colour ⌝ }
+// The levels at a clock in these parts whose colour, before INVVD, is given.
+pub fn clock_of(w: Words, parts: Parts, colour: u32) -> Clock
+    ensures { λ r. ⌜ r ≡ clockOf w (parts .line) (parts .clock) colour ⌝ }
 {
+    let line = parts.line;
+    let clock = parts.clock;
     Clock {
-        vsync: level(w.invvframe(), in_sync(line_part(w, position))),
-        hsync: level(w.invvline(), in_sync(clock_part(w, position))),
-        vden: level(w.invvden(), shows_pixel(spot_at(w, position))),
+        vsync: level(w.invvframe(), in_sync(line)),
+        hsync: level(w.invvline(), in_sync(clock)),
+        vden: level(w.invvden(), shows_pixel(spot_of(parts))),
         vd: data_word(w.invvd(), colour),
     }
 }

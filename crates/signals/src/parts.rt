@@ -1,7 +1,7 @@
 // The parts of a line and of a frame.
 ghost use mathlib.Core.Path.{_≡_};
 ghost use Rattle.panel.specs.Timing.{timing};
-ghost use Rattle.signals.specs.Parts.{partAt, linesBefore, clocksBefore, linePart, clockPart};
+ghost use Rattle.signals.specs.Parts.{partAt, linesBefore, clocksBefore, partsAt};
 use panel::geometry::height;
 use panel::geometry::width;
 use panel::timing::line_clocks;
@@ -45,18 +45,18 @@ fn part_at(sync: u32, before: u32, active: u32, number: u32) -> Part
     Part::FrontPorch
 }
 
-// The part of the frame in which a position's line lies.
-pub fn line_part(w: Words, position: u32) -> Part
-    ensures { λ r. ⌜ r ≡ linePart (timing w) position ⌝ }
-{
-    let line = position / line_clocks(w);
-    part_at(w.vspw() + 1, lines_before(w), height(w), line)
+// Where a position lies in its frame and in its line.
+pub struct Parts {
+    pub line: Part,
+    pub clock: Part,
 }
 
-// The part of its line in which a position lies.
-pub fn clock_part(w: Words, position: u32) -> Part
-    ensures { λ r. ⌜ r ≡ clockPart (timing w) position ⌝ }
+// The parts in which a position's line and clock lie.
+pub fn parts_at(w: Words, position: u32) -> Parts
+    ensures { λ r. ⌜ r ≡ partsAt (timing w) position ⌝ }
 {
-    let clock = position % line_clocks(w);
-    part_at(w.hspw() + 1, clocks_before(w), width(w), clock)
+    let size = line_clocks(w);
+    let line = part_at(w.vspw() + 1, lines_before(w), height(w), position / size);
+    let clock = part_at(w.hspw() + 1, clocks_before(w), width(w), position % size);
+    Parts { line, clock }
 }

@@ -2,11 +2,10 @@
 ghost use mathlib.Core.Path.{_≡_};
 ghost use Prim.Native.Nat.{_≤_};
 ghost use Rattle.panel.specs.Timing.{timing};
-ghost use Rattle.signals.specs.Pixel.{spotAt, columnsBefore, pixelsInLines, pixelsBefore};
+ghost use Rattle.signals.specs.Pixel.{spotOf, columnsBefore, pixelsInLines, pixelsBefore};
 use super::parts::Part;
-use super::parts::clock_part;
+use super::parts::Parts;
 use super::parts::clocks_before;
-use super::parts::line_part;
 use super::parts::lines_before;
 use panel::geometry::height;
 use panel::geometry::width;
@@ -19,12 +18,12 @@ pub enum Spot {
     Blank,
 }
 
-// What the clock at a position shows.
-pub fn spot_at(w: Words, position: u32) -> Spot
-    ensures { λ r. ⌜ r ≡ spotAt (timing w) position ⌝ }
+// What a clock in these parts shows.
+pub fn spot_of(parts: Parts) -> Spot
+    ensures { λ r. ⌜ r ≡ spotOf (parts .line) (parts .clock) ⌝ }
 {
-    let line = line_part(w, position);
-    let clock = clock_part(w, position);
+    let line = parts.line;
+    let clock = parts.clock;
     match line {
         Part::Active(row) => match clock {
             Part::Active(column) => Spot::Pixel(row, column),

@@ -9,13 +9,15 @@ use Rattle.laws.specs.Answers.{Answer, accepted, refused, gives-refusal, gives-
 use Rattle.drawing.specs.Drawing.{drawn}
 use Rattle.panel.specs.Timing.{timing}
 use Rattle.registers.specs.declared.Words.{Words}
-use Rattle.signals.specs.Clock.{clockAt}
-use Rattle.signals.specs.Pixel.{spotAt}
+use Rattle.signals.specs.Clock.{clockOf, clockAt}
+use Rattle.signals.specs.Parts.{partsAt}
+use Rattle.signals.specs.Pixel.{spotOf, spotAt}
 use Rattle.signals.specs.declared.clock.Clock.{Clock}
+use Rattle.signals.specs.declared.parts.Parts.{Parts}
 use Rattle.signals.specs.declared.pixel.Spot.{Spot}
 use Rattle.scanout.specs.Calls.{Lent, judgeStep, nextColour, step}
 use Rattle.scanout.specs.Core.{lending, spotDrawn}
-use Rattle.scanout.specs.State.{advance}
+use Rattle.scanout.specs.State.{shownWords, advance}
 use Rattle.scanout.specs.declared.state.State.{State}
 use Rattle.scanout.proofs.Acceptance.{Passed, passed}
 use Rattle.scanout.proofs.Drawings.{spot-drawn}
@@ -31,19 +33,24 @@ lets : (c : tie.Else1) → Passed (c .before .before .before .before .args .s) (
 lets c = passed _ _ _ _ (sym (c .before .judge-scan .ensures) ∙ c .if1 .left)
 
 abbrev state : tie.After-draw-spot → State
-state c = c .before .before .before .before .before .before .before .args .s
+state c = c .before .before .before .before .before .before .before .before .args .s
 
 abbrev lent : tie.After-draw-spot → Lent
-lent c = lending (c .before .before .before .before .before .before .before .args .video .now) (c .before .before .before .before .before .before .before .args .palette .now)
+lent c = lending (c .before .before .before .before .before .before .before .before .args .video .now) (c .before .before .before .before .before .before .before .before .args .palette .now)
+
+-- where the position lies, by the words that the clock is shown with
+parts-are : (c : tie.After-parts-at)
+    → c .parts-at .result ≡ partsAt (timing (shownWords (c .before .before .before .before .before .before .args .s))) (c .before .before .before .before .before .before .args .s .position)
+parts-are c = rw (c .before .shown-words .ensures) at (c .parts-at .ensures)
 
 -- what was drawn is the next clock's colour
 colour : (c : tie.After-draw-spot) → drawn (c .draw-spot .result) ≡ accepted (nextColour (state c) (lent c))
+unfolding spotAt
 colour c =
     c .draw-spot .ensures
-    ∙ ap₂ (λ (w : Words) (x : Spot). spotDrawn w (state c .«window_start») (lent c) x) (c .before .before .shown-words .ensures)
-    (c .before .spot-at .ensures
-    ∙ ap (λ (w : Words). spotAt (timing w) (state c .position)) (c .before .before .shown-words .ensures))
-    ∙ spot-drawn (state c) (lent c) false (lets (c .before .before .before))
+    ∙ ap₂ (λ (w : Words) (x : Spot). spotDrawn w (state c .«window_start») (lent c) x) (c .before .before .before .shown-words .ensures)
+    (c .before .spot-of .ensures ∙ ap (λ (p : Parts). spotOf (p .line) (p .clock)) (parts-are (c .before .before)))
+    ∙ spot-drawn (state c) (lent c) false (lets (c .before .before .before .before))
 
 value : Answer ℕ → ℕ
 value (accepted v) = v
@@ -54,16 +61,19 @@ flag (accepted v) = 1
 flag (refused n) = 0
 
 moved-requires : tie.Need-moved-requires
-moved-requires c κs = omega (arith, lets (c .before .before .before .before .before .before .before) .inside)
+moved-requires c κs = omega (arith, lets (c .before .before .before .before .before .before .before .before) .inside)
 
 returns-2 : tie.Need-returns-2
-unfolding step judgeStep advance value
+unfolding step judgeStep advance value clockAt
 returns-2 c =
     let there = c .before .before .before .before .before in
-    gives-answer _ _ _ _ (there .before .before .before .before .judge-scan .ensures) (there .before .before .before .if1 .left)
+    let accepts = there .before .before .before .before in
+    gives-answer _ _ _ _ (accepts .before .judge-scan .ensures) (accepts .if1 .left)
     (ap₂ (λ (k : Clock) (t : State). record { clock = k; next = t })
-    (c .before .clock-at .ensures
-    ∙ ap₂ (λ (w : Words) (v : ℕ). clockAt w (state there .position) v) (there .before .before .shown-words .ensures)
+    (c .before .clock-of .ensures
+    ∙ ap₂ (λ (w : Words) (p : Parts). clockOf w (p .line) (p .clock) (c .before .before .before .v .given .0 .0))
+    (there .before .before .before .shown-words .ensures) (parts-are (there .before .before))
+    ∙ ap (λ (v : ℕ). clockAt (shownWords (state there)) (state there .position) v)
     (ap value (sym (ap drawn (c .before .before .before .v .given .1)) ∙ colour there)))
     (c .moved .ensures))
 
@@ -80,6 +90,7 @@ step-spec =
     (tie.spec
     (λ c κs. tt)
     returns
+    (λ c κs. tt)
     (λ c κs. tt)
     (λ c κs. tt)
     (λ c κs. tt)
