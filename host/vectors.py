@@ -4,6 +4,8 @@
 What is due is worked out here by itself, from document 01's sentences, and nowhere from the library: words are strings of 32
 characters '0' and '1', a field is a piece of such a string, a row is the string of all its stored bits, a pixel the next S
 characters of it, a colour 24 characters VD23..VD0. Refusal 8 asks of every word of every row whether it lies in the lent memory.
+A frame is the list of all its clocks, put together part by part; clocks are numbered through the list of calls, and the view of a
+frame is found in the schedule of the accepted ones.
 The answers of the group `hand` also stand below as literals, as the paper gives them or as worked out by hand; where the two
 differ, the script stops.
 """
@@ -101,7 +103,7 @@ def asked(lent, call, args):
         return 0, 0, args[0], args[1], 0
     if call == "row":
         return size(lent)[0], args[0], args[1], 0, 0
-    if call == "picture":
+    if call in ("picture", "run"):
         return size(lent)[1], args[0], 0, 0, 0
     if call == "stretch":
         return size(lent)[1], args[0], 0, 0, args[1] + args[2]
@@ -126,7 +128,7 @@ def applying(lent, call, *args):
         10: len(lent.palette) != 256 or has < needed,
         11: row >= h or column >= w or end > w * h,
     }
-    judged = {"counts": 7, "rate": 7, "check": 8, "picture": 10}.get(call, 11)
+    judged = {"counts": 7, "rate": 7, "check": 8, "begin": 9, "view": 9, "picture": 10, "step": 10, "run": 10}.get(call, 11)
     return [n for n, holds in conditions.items() if n <= judged and holds]
 
 
@@ -199,6 +201,120 @@ def worked_out(lent, call, *args):
     return [n] if n else [0, *VALUES[call](lent, *args)]
 
 
+# ---- the scan ("Clocks and lines")
+
+def parts(sync, back, active, front):
+    """The lines of a frame, or the clocks of a line, each by its part; the fields say one less than there are."""
+    return ["sync"] * (sync + 1) + ["back"] * (back + 1) + ["active"] * (active + 1) + ["front"] * (front + 1)
+
+
+def clocks_of(words):
+    """All clocks of a frame: whether VSYNC and HSYNC are active, and the pixel's number in the picture (None: VDEN is not)."""
+    f, pixel, clocks = fields(words), 0, []
+    for line in parts(f["VSPW"], f["VBPD"], f["LINEVAL"], f["VFPD"]):
+        for clock in parts(f["HSPW"], f["HBPD"], f["HOZVAL"], f["HFPD"]):
+            active = line == clock == "active"
+            clocks.append((line == "sync", clock == "sync", pixel if active else None))
+            pixel += active
+    return clocks
+
+
+def levels(f, vsync, hsync, colour):
+    """The four signals of a clock; a colour of None is a blank one."""
+    exchanged = lambda active, invert: {(True, 0): 1, (False, 0): 0, (True, 1): 0, (False, 1): 1}[active, invert]
+    vd = format(colour or 0, "024b")
+    if f["INVVD"]:
+        vd = "".join({"0": "1", "1": "0"}[line] for line in vd)
+    vden = colour is not None
+    return [exchanged(vsync, f["INVVFRAME"]), exchanged(hsync, f["INVVLINE"]), exchanged(vden, f["INVVDEN"]), int(vd, 2)]
+
+
+def with_view(words, view):
+    return [*words[:5], *view, *words[7:]]
+
+
+class Scan:
+    """A list of calls from one state on. Its clocks are numbered from the state's position on, through all frames; the schedule
+    has each view that was accepted with the number of the clock that came next."""
+
+    def __init__(self, words, start, waiting, position):
+        self.words, self.start, self.first, self.clock = list(words), start, position, position
+        self.schedule = [(position, tuple(waiting))]
+        self.frame = clocks_of(words)
+        if len(self.frame) != frame(Lent(words))[0]:
+            raise SystemExit(f"{words}: a list of {len(self.frame)} clocks")
+
+    def view_of(self, frame):
+        """Of the frame inside which the list begins, the view in force; else the last accepted before its clock 0 was taken."""
+        if frame == 0 and self.first > 0:
+            return tuple(self.words[5:7])
+        return [view for clock, view in self.schedule if clock <= frame * len(self.frame)][-1]
+
+    def in_force(self):
+        """The nine words, with the view of the frame of the last clock."""
+        if self.clock == self.first:
+            return self.words
+        return with_view(self.words, self.view_of((self.clock - 1) // len(self.frame)))
+
+    def waiting(self):
+        return self.schedule[-1][1]
+
+    def position(self):
+        return self.first if self.clock == self.first else self.clock % len(self.frame)
+
+    def state(self):
+        """The 13 numbers."""
+        return [*self.in_force(), self.start, *self.waiting(), self.position()]
+
+    def lend(self, lent, view):
+        """What a call is lent, with the state's words and a view."""
+        return Lent(with_view(self.words, view), start=self.start, video=lent.video, palette=lent.palette)
+
+    def applying(self, lent, call, *args):
+        """All numbers that apply to a step, a run (by the entries lent) or a view change (by the new view)."""
+        current = tuple(self.in_force()[5:7])
+        views = {current, self.waiting(), args} if call == "view" else {current, self.waiting()}
+        bank = lambda view: fields(with_view(self.words, view))["LCDBANK"]
+        numbers = {n for view in views for n in applying(self.lend(lent, view), call, *args)}
+        numbers |= {13} if any(bank(view) != bank(current) for view in views) else set()
+        numbers |= {15} if self.position() >= len(self.frame) else set()
+        return sorted(numbers)
+
+    def refusal(self, lent, call, *args):
+        return min(self.applying(lent, call, *args), default=0)
+
+    def take(self, lent):
+        """The next clock: VSYNC, HSYNC, the pixel and its colour."""
+        view = self.view_of(self.clock // len(self.frame))
+        vsync, hsync, pixel = self.frame[self.clock % len(self.frame)]
+        self.clock += 1
+        return vsync, hsync, pixel, None if pixel is None else colours(self.lend(lent, view))[pixel]
+
+    def step(self, lent):
+        n = self.refusal(lent, "step")
+        if n:
+            return [n]
+        vsync, hsync, _, colour = self.take(lent)
+        return [0, *levels(fields(self.words), vsync, hsync, colour)]
+
+    def run(self, lent, clocks, picture):
+        n = self.refusal(lent, "run", len(picture))
+        if n:
+            return [n]
+        count = min(clocks, len(self.frame) - self.position())
+        for _ in range(count):
+            _, _, pixel, colour = self.take(lent)
+            if pixel is not None:
+                picture[pixel] = colour
+        return [0, count]
+
+    def view(self, lent, *view):
+        n = self.refusal(lent, "view", *view)
+        if not n:
+            self.schedule.append((self.clock, view))
+        return [n]
+
+
 # ---- making words for the cases
 
 def pack(f):
@@ -249,7 +365,22 @@ HEADER = """# Vectors of the conformance program. Made by host/vectors.py, which
 #   picture LENT =            the same
 #   stretch LENT FIRST COUNT = the entries from FIRST on
 # Entries that are not listed are due as they were before the call, so all of them where it is refused.
+# A scan is kept from line to line: each call gets the state that the one before returned, after a refusal the old one, and each
+# run the picture as the one before left it. Settings:
+#   state ..                  a state from outside: nine words, window start, waiting LCDSADDR1 and 2, position
+#   canvas N VALUE            a new picture of N entries, each VALUE
+# Calls, with the refusal or 0 due as above; the state brings its own words and window start:
+#   begin =                   a start with the words, window start and video words lent
+#   step =                    VSYNC, HSYNC, VDEN and the data word
+#   run CLOCKS =              how many it took
+#   view SADDR1 SADDR2 =
+# Looks, each one case, with what is due alone:
+#   at = ..                   the 13 numbers of the state
+#   shows = ..                all entries of the picture
 """
+# What a call is lent, by the keys of the settings.
+LENT = {"counts": "words", "rate": "words hclk", "check": "words video start", "begin": "words video start",
+        "step": "video palette", "run": "video palette", "view": "video", "at": "", "shows": ""}
 GROUPS = {}
 
 
@@ -265,24 +396,71 @@ class Group:
             self.now[kind] = line
             self.text.append(line + "\n")
 
-    def case(self, about, lent, call, *args, due=None):
-        """One call. What is due is worked out; what is given by hand must be the same."""
+    def lend(self, lent, call):
+        keys = LENT.get(call, "words video start palette").split()
+        if "words" in keys:
+            self.setting("words", lent.words)
+        if "video" in keys:
+            self.setting("counted", lent.counted) if lent.counted else self.setting("video", lent.video)
+        if "start" in keys:
+            self.setting("start", [lent.start])
+        if "palette" in keys:
+            self.setting("palette", lent.palette)
+        if "hclk" in keys:
+            self.setting("hclk", [lent.hclk])
+
+    def write(self, about, lent, call, args, answer, due):
+        """A call's line. What is given by hand must be what is worked out."""
         if about:
             self.text.append(f"# {about}\n")
-        self.setting("words", lent.words)
-        if call not in ("counts", "rate"):
-            self.setting("counted", lent.counted) if lent.counted else self.setting("video", lent.video)
-            self.setting("start", [lent.start])
-        if call not in ("counts", "rate", "check"):
-            self.setting("palette", lent.palette)
-        if call == "rate":
-            self.setting("hclk", [lent.hclk])
-        answer = worked_out(lent, call, *args)
+        self.lend(lent, call)
         if due not in (None, answer):
             raise SystemExit(f"{about}: by hand {due}, worked out {answer}")
         h = lambda values: [format(v, "x") for v in values]
         self.text.append(" ".join([call, *h(args), "=", *h(answer)]) + "\n")
         self.cases += 1
+
+    def case(self, about, lent, call, *args, due=None):
+        """One call that keeps nothing."""
+        self.write(about, lent, call, args, worked_out(lent, call, *args), due)
+
+    # the scan: each call changes self.scan and self.picture as it is due, and writes its line
+
+    def begin(self, about, lent, due=None):
+        n = refusal(lent, "begin")
+        if not n:
+            self.scan = Scan(lent.words[:9], lent.start, lent.words[5:7], 0)
+        self.write(about, lent, "begin", (), [n], due)
+
+    def state(self, about, words, waiting=None, position=0, start=0x30000000):
+        """Hands a state in; the view in force waits too unless another is given."""
+        self.scan = Scan(words, start, words[5:7] if waiting is None else waiting, position)
+        if about:
+            self.text.append(f"# {about}\n")
+        self.text.append(" ".join(["state", *(format(v, "x") for v in self.scan.state())]) + "\n")
+
+    def canvas(self, n, value):
+        self.picture = [value] * n
+        self.text.append(f"canvas {n:x} {value:x}\n")
+
+    def step(self, about, lent, due=None):
+        self.write(about, lent, "step", (), self.scan.step(lent), due)
+
+    def steps(self, about, lent, count):
+        for i in range(count):
+            self.step(about if i == 0 else None, lent)
+
+    def run(self, about, lent, clocks, due=None):
+        self.write(about, lent, "run", (clocks,), self.scan.run(lent, clocks, self.picture), due)
+
+    def view(self, about, lent, saddr1, saddr2, due=None):
+        self.write(about, lent, "view", (saddr1, saddr2), self.scan.view(lent, saddr1, saddr2), due)
+
+    def at(self, due=None):
+        self.write(None, None, "at", (), self.scan.state(), due)
+
+    def shows(self, due=None):
+        self.write(None, None, "shows", (), self.picture, due)
 
 
 def swaps_of(depth):
@@ -590,6 +768,438 @@ def count_cases():
             g.case(f"HCLK {hclk}", Lent(words, hclk=hclk), "rate")
 
 
+def porches(hspw, hbpd, hfpd, vspw, vbpd, vfpd):
+    return dict(HSPW=hspw, HBPD=hbpd, HFPD=hfpd, VSPW=vspw, VBPD=vbpd, VFPD=vfpd)
+
+
+ALL = 2**64 - 1  # clocks: more than any frame has
+
+
+def scan_cases():
+    g = Group("scan", "steps through more than two frames in every mode: each clock's signals, the state now and then")
+    for depth, width, height, around, other in (
+            (32, 3, 2, (0, 0, 0, 0, 0, 0), {}), (32, 3, 2, (1, 2, 0, 0, 1, 2), {"BPP24BL": 1, "OFFSIZE": 4}),
+            (16, 2, 3, (2, 0, 1, 1, 0, 0), {"FRM565": 1, "HWSWP": 1}), (16, 4, 1, (0, 3, 2, 2, 1, 0), {"OFFSIZE": 2}),
+            (8, 4, 2, (0, 1, 3, 0, 2, 1), {"BSWP": 1, "LCDBASEU": 2}), (4, 8, 2, (3, 0, 0, 1, 1, 1), {"FRM565": 1}),
+            (2, 16, 2, (1, 1, 1, 0, 0, 1), {"OFFSIZE": 2}), (1, 32, 2, (0, 0, 1, 0, 1, 0), {"FRM565": 1, "BSWP": 1})):
+        words = panel(depth, width, height, **porches(*around), **other)
+        first, second = Lent(words, video=noise(16, depth + width)), Lent(words, video=noise(16, depth + 77))
+        g.begin(f"{24 if depth == 32 else depth} bits, {width} by {height}, HSPW, HBPD, HFPD, VSPW, VBPD, VFPD {around}", first)
+        g.at()
+        frame = len(g.scan.frame)
+        for i in range(2 * frame + frame // 2):
+            if i == 2 * frame:
+                g.text.append("# the third frame is lent other memory\n")
+            g.step(None, first if i < 2 * frame else second)
+            if i % 37 == 5 or i % frame in (0, frame - 2, frame - 1):
+                g.at()
+
+
+def signal_cases():
+    g = Group("signals", "a frame with each of INVVFRAME, INVVLINE, INVVDEN and INVVD, with all, with the temporary palette")
+    around = porches(1, 0, 1, 1, 0, 0)
+    four = ("INVVFRAME", "INVVLINE", "INVVDEN", "INVVD")
+    tpal = {"TPALEN": 1, "TPALVAL": 0x12F00F}
+    for flags in ({}, *({name: 1} for name in four), {name: 1 for name in four}, tpal, {**tpal, "INVVD": 1},
+                  {**tpal, "TPALVAL": 0}, {"TPALVAL": 0xFFFFFF},
+                  {name: 1 for name in ("INVVCLK", "INVPWREN", "INVLEND", "PWREN", "ENLEND", "MMODE")}):
+        lent = Lent(panel(8, 4, 2, FRM565=1, **around, **flags), video=noise(2, 5))
+        g.begin(", ".join(f"{name} 0x{value:x}" for name, value in flags.items()) or "plain", lent)
+        g.steps(None, lent, len(g.scan.frame) + 1)
+        g.at()
+
+
+def any_mix(g, depth, width, height, around):
+    """Steps, runs and view changes by no pattern, each frame with one of four memories."""
+    shape = dict(depth=depth, width=width, height=height, OFFSIZE=2, FRM565=1, **porches(*around))
+    memory = [Lent(panel(**shape), video=noise(16, depth + seed)) for seed in range(4)]
+    g.canvas(width * height + 1, depth)
+    g.begin(f"{24 if depth == 32 else depth} bits, {width} by {height}: any mix", memory[0])
+    for choice in noise(60, depth):
+        lend = memory[g.scan.clock // len(g.scan.frame) % 4]
+        if choice % 5 == 0:
+            g.view(None, lend, *panel(**shape, LCDBASEU=choice // 5 % 8 * 2)[5:7])
+        elif choice % 5 == 1:
+            g.step(None, lend)
+        else:
+            g.run(None, lend, choice // 5 % (2 * len(g.scan.frame)) >> choice // 4096 % 4)
+        if choice % 3 == 0:
+            g.at()
+        if choice % 7 == 0:
+            g.shows()
+    g.at()
+    g.shows()
+
+
+def long_frame(g):
+    lent = Lent(panel(32, 1, 1, **porches(255, 127, 255, 63, 255, 255)), video=noise(1, 6))
+    g.canvas(1, 0x77)
+    g.begin("one pixel, the widest porches: 577 lines of 641 clocks", lent)
+    before = [pixel for _, _, pixel in g.scan.frame].index(0)
+    g.run("up to the pixel", lent, before)
+    g.at()
+    g.shows()
+    g.steps("the pixel and the clock after it", lent, 2)
+    g.run(None, lent, ALL)
+    g.at()
+    g.shows()
+    g.run("the pixel too", lent, before + 1)
+    g.shows()
+    g.run("all but the last clock", lent, 577 * 641 - before - 2)
+    g.at()
+    g.run(None, lent, ALL)
+    g.at()
+
+
+def run_cases():
+    g = Group("runs", "steps and runs mixed, one picture lent to all runs, a frame of many short runs, counts of up to 2^64 - 1")
+    shape = dict(depth=16, width=4, height=3, **porches(0, 1, 0, 0, 0, 1))
+    words = panel(**shape, INVVD=1, INVVDEN=1)  # 8 clocks a line, 7 lines
+    view = lambda baseu: panel(**shape, LCDBASEU=baseu)[5:7]
+    lent, other = Lent(words, video=noise(12, 3)), Lent(words, video=noise(12, 4))
+
+    def run(about, lent, clocks):
+        g.run(about, lent, clocks)
+        g.at()
+        g.shows()
+
+    g.canvas(14, 0xDEADBEEF)
+    g.begin("4 by 3 at 16 bits, 56 clocks; the picture is before INVVD, and two entries past it stay", lent)
+    run("nothing is taken, and the view in force stays", lent, 0)
+    g.view(None, lent, *view(6))
+    run("no more after a view change", lent, 0)
+    run("clock 0 brings the view", lent, 1)
+    run("up to the first pixel", lent, 18)
+    run("the first pixel", lent, 1)
+    run("a part of the first row", lent, 2)
+    run("nothing in mid-frame", lent, 0)
+    g.steps("a step shows a pixel and writes none", lent, 2)
+    run("the end of a row, the blank clocks, the next row's beginning", lent, 7)
+    run("exactly to the frame's end", lent, 56 - 31)
+    run("the next frame, other memory: the top alone", other, 21)
+    g.steps("the rest of it by steps: the picture stays", other, 35)
+    g.at()
+    g.shows()
+    g.view("the third frame has another view", lent, *view(12))
+    g.steps(None, lent, 30)
+    run("across the frame's end: it stops there", lent, 27)
+    for clocks in (ALL, 2**63, 2**32, 2**32 + 5, 57, 56):
+        run(f"a whole frame, of {clocks:,} clocks", other if clocks % 2 else lent, clocks)
+    for clocks in (ALL, 2**32, 2**32 + 1, 2**33):
+        g.steps("one step, then a run", lent, 1)
+        run(f"of {clocks:,} clocks", lent, clocks)
+    g.canvas(12, 0)
+    for length in (1, 3, 5, 8, 11):
+        lend = (lent, other)[length % 2]
+        for clock in range(0, 56, length):
+            g.run(f"a frame of runs of {length}" if clock == 0 else None, lend, length)
+            if length == 1 or clock % 2:
+                g.at()
+            if clock % 3 == 0:
+                g.shows()
+        g.at()
+        g.shows()
+    for shape in ((32, 3, 2, (0, 0, 1, 1, 0, 0)), (8, 4, 3, (1, 0, 0, 0, 0, 0)), (4, 8, 2, (0, 2, 0, 0, 1, 0)),
+                  (2, 16, 2, (0, 0, 0, 0, 0, 0)), (1, 32, 2, (2, 1, 0, 0, 0, 1))):
+        any_mix(g, *shape)
+    long_frame(g)
+
+
+def view_cases():
+    g = Group("views", "view changes in mid-frame, at position 0, twice in a frame, refused; clock 0 alone brings a view")
+    shape = dict(depth=8, width=4, height=2, FRM565=1, **porches(0, 0, 0, 0, 0, 0))
+    words = panel(**shape)  # 7 clocks a line, 5 lines
+    view = lambda baseu, **other: panel(**shape, LCDBASEU=baseu, **other)[5:7]
+    lent = Lent(words, video=noise(10, 8))
+
+    def view_at(about, *saddr):
+        g.view(about, lent, *saddr)
+        g.at()
+
+    g.canvas(8, 0)
+    g.begin("35 clocks, the pixels of row 0 at 16 to 19, of row 1 at 23 to 26", lent)
+    view_at("before any clock", *view(2))
+    g.steps("clock 0 brings it", lent, 1)
+    g.at()
+    view_at("after clock 0: waits a whole frame", *view(4))
+    g.steps(None, lent, 17)
+    g.at()
+    view_at("between two pixels", *view(6))
+    g.steps("the frame goes on with its own view", lent, 8)
+    view_at("twice in a frame: the last wins", *view(8))
+    g.steps(None, lent, 8)
+    g.at()
+    g.steps("the last clock of the frame does not bring it", lent, 1)
+    g.at()
+    g.steps("clock 0 does", lent, 1)
+    g.at()
+    g.run(None, lent, ALL)
+    g.shows()
+    view_at("at position 0, after a frame", *view(10))
+    view_at("and once more", *view(12))
+    g.run(None, lent, ALL)
+    g.at()
+    g.shows()
+    for about, bad in (("1: a reserved bit of LCDSADDR1", (view(2)[0] | 1 << 30, view(2)[1])),
+                       ("1: a reserved bit of LCDSADDR2", (view(2)[0], view(2)[1] | 1 << 21)),
+                       ("5: LCDBASEU odd", view(3)), ("6: LCDBASEL too large", view(2, LCDBASEL=7)),
+                       ("6: LCDBASEL too small", view(2, LCDBASEL=5)), ("7: past the bank", view(2**21 - 2)),
+                       ("8: past the lent memory", view(18)), ("8: far past it", view(2**20)),
+                       ("8, not 13: another bank", view(2, LCDBANK=0xC1))):
+        view_at("a view waits", *view(14))
+        view_at(f"{about}: it waits on", *bad)
+        g.steps(None, lent, 20)
+        view_at("the same in mid-frame", *bad)
+        g.run(None, lent, ALL)
+        g.at()
+        g.shows()
+        view_at("the view in force, again", *view(0))
+    view_at("the last that lies inside", *view(16))
+    g.run(None, lent, 34)
+    g.shows()
+    view_at("before the last clock of a frame", *view(4))
+    g.run(None, lent, 2)
+    g.at()
+    g.run("a run brings it too", lent, 20)
+    g.at()
+    g.shows()
+    for base in range(0, 18, 2):
+        view_at(None, *view(base))
+        g.run(None, lent, 12)
+        g.at()
+    g.shows()
+    g.begin("a start in mid-frame: position 0, its own view in both places", Lent(panel(**shape, LCDBASEU=6), video=lent.video))
+    g.at()
+    g.run(None, lent, ALL)
+    g.shows()
+    edge = Lent(panel(**shape, LCDBASEU=2**21 - 4), start=0x30400000 - 8, video=noise(10, 9))
+    g.begin("a view that ends its bank: LCDBASEL is 0", edge)
+    g.view("13: the next bank lies in the lent memory", edge, *view(0, LCDBANK=0xC1))
+    g.view("13 too: back to it", edge, *view(4, LCDBANK=0xC1))
+    g.at()
+    g.view("6 before 13", edge, *view(0, LCDBANK=0xC1, LCDBASEL=0))
+    g.view("8 before 13", edge, *view(16, LCDBANK=0xC1))
+    g.run(None, edge, ALL)
+    g.shows()
+
+
+GOOD = dict(depth=8, width=4, height=2)  # the panel of the handed-in states: 7 clocks a line, 5 lines, 35 in all
+
+
+def good_view(baseu, **other):
+    return panel(**GOOD, LCDBASEU=baseu, **other)[5:7]
+
+
+def all_three(g, about, lent, new=good_view(2)):
+    """Step, run and view change; then the state and the picture, which those that are refused must leave."""
+    g.step(about, lent)
+    g.run(None, lent, 3)
+    g.view(None, lent, *new)
+    g.at()
+    g.shows()
+
+
+def refused_states(g):
+    lent = Lent(panel(**GOOD), video=noise(6))
+    for number, words in bad_words().items():
+        g.state(f"{number} in the words", words, position=9)
+        all_three(g, None, Lent(words, video=noise(64)))
+    g.state("8 in memory", panel(**GOOD), position=18)
+    all_three(g, "one word short", Lent(panel(**GOOD), video=noise(1)))
+    all_three(g, "no memory", Lent(panel(**GOOD)))
+    all_three(g, "just enough: the new view is not inside", Lent(panel(**GOOD), video=noise(2)))
+    all_three(g, "enough", lent)
+    for start in (0x30000002, 0x2FFFFFFF, 0x30000004, 0x2FFFFFFC, 0):
+        g.state(f"window start 0x{start:08x}", panel(**GOOD), position=18, start=start)
+        all_three(g, None, lent)
+    g.state("9: ENVID 0", panel(**GOOD, ENVID=0), position=18)
+    all_three(g, None, lent)
+    for n in (0, 255, 257):
+        g.state(f"10: a palette of {n}; a view change is lent none", panel(**GOOD), position=18)
+        all_three(g, None, Lent(panel(**GOOD), video=noise(6), palette=(PALETTE + [0])[:n]))
+    for depth, other in ((16, {}), (32, {}), (8, {"TPALEN": 1})):
+        words = panel(depth, 4, 1, **other)
+        g.state("the palette's length is judged in every mode", words)
+        g.step(None, Lent(words, video=noise(6), palette=PALETTE[:255]))
+        g.run(None, Lent(words, video=noise(6), palette=PALETTE[:255]), 0)
+        g.run(None, Lent(words, video=noise(6)), ALL)
+        g.shows()
+    for n in (0, 7, 8, 9):
+        g.canvas(n, 0x77)
+        g.state(f"10: a picture of {n} for 8 pixels, in a run alone", panel(**GOOD), position=18)
+        g.run("a run of 0 is judged too", lent, 0)
+        all_three(g, None, lent)
+
+
+def several_views(g):
+    """The view in force, the waiting one and the new one, each good or refused by one of five numbers: all triples."""
+    lent = Lent(panel(**GOOD), video=noise(6))
+    views = {0: good_view(4), 1: (good_view(4)[0] | 1 << 31, good_view(4)[1]), 5: good_view(3), 6: good_view(4, LCDBASEL=4),
+             7: good_view(2**21 - 2), 8: good_view(2**20)}
+    g.canvas(8, 0x77)
+    for current, waiting in product(views, views):
+        g.state(f"in force {current}, waiting {waiting}, new 0, 1, 5, 6, 7, 8", with_view(panel(**GOOD), views[current]),
+                waiting=views[waiting], position=18)
+        g.step(None, lent)
+        g.run(None, lent, 2)
+        for new in views.values():
+            g.view(None, lent, *new)
+        g.at()
+    g.shows()
+
+
+def late_numbers(g):
+    """9, 10, 13, 15, each there or not; 13 by a waiting view in the next bank, which the lent memory reaches."""
+    edge, start, next_bank = panel(**GOOD, LCDBASEU=2**21 - 4), 0x30400000 - 8, good_view(0, LCDBANK=0xC1)
+    for off, short, bank, past in product((0, 1), repeat=4):
+        numbers = [n for n, holds in ((9, off), (10, short), (13, bank), (15, past)) if holds]
+        g.state(f"there are {numbers}", panel(**GOOD, LCDBASEU=2**21 - 4, ENVID=1 - off), waiting=next_bank if bank else None,
+                position=35 if past else 34, start=start)
+        lent = Lent(edge, video=noise(8), palette=PALETTE[:255] if short else None)
+        if g.scan.applying(lent, "step") != numbers:
+            raise SystemExit(f"{numbers}: {g.scan.applying(lent, 'step')} apply")
+        all_three(g, None, lent, new=edge[5:7])
+        g.view("a new view in the next bank", lent, *next_bank)
+        g.at()
+    lent = Lent(edge, video=noise(8))
+    g.state("13 of the waiting view: a good new one does not lift it", edge, waiting=next_bank, position=5, start=start)
+    g.view(None, lent, *edge[5:7], due=[13])
+    g.state("in the next bank, and the new view in the one before", with_view(edge, next_bank), position=5, start=start)
+    g.view(None, lent, *edge[5:7], due=[13])
+    g.view(None, lent, *good_view(2, LCDBANK=0xC1), due=[0])
+    g.at()
+
+
+def positions(g):
+    lent = Lent(panel(**GOOD), video=noise(6))
+    for around in ((0, 0, 0, 0, 0, 0), (3, 1, 0, 0, 2, 1)):
+        words = panel(**GOOD, **porches(*around))
+        frame = len(clocks_of(words))
+        for position in (0, 1, frame - 2, frame - 1, frame, frame + 1, 2 * frame, 2**31, 2**32 - 1):
+            g.state(f"position {position} of {frame}", words, waiting=good_view(2), position=position)
+            g.run(None, lent, 0)
+            g.at()
+            all_three(g, None, lent)
+        g.canvas(8, 0x77)
+        for position in (frame // 2, frame - 1):
+            g.state(f"position {position}: the frame ends in the view in force, the next has the waiting one", words,
+                    waiting=good_view(4), position=position)
+            for _ in range(3):
+                g.run(None, lent, ALL)
+                g.at()
+                g.shows()
+    g.state("position 0: the waiting view, not the one in force", panel(**GOOD), waiting=good_view(4))
+    g.steps(None, lent, 18)
+    g.at()
+    g.state("read-only bits stay as they are", panel(**GOOD, LINECNT=0x3FF, VSTATUS=3, HSTATUS=2), position=16)
+    all_three(g, None, lent)
+
+
+def starts(g):
+    for about, words, video in (
+            ("a start of eight words", panel(**GOOD)[:8], 6), ("of none", [], 6), ("10 before 1", bad_words()[1][:8], 0),
+            ("9: ENVID 0", panel(**GOOD, ENVID=0), 6), ("8 before 9", panel(**GOOD, ENVID=0), 1), ("8", panel(**GOOD), 1),
+            *((str(number), words, 64) for number, words in bad_words().items()),
+            ("a tenth word is ignored", panel(**GOOD) + [0xFFFFFFFF], 6),
+            ("read-only bits stay", panel(**GOOD, LINECNT=1, VSTATUS=1), 6)):
+        g.state(None, panel(**GOOD), waiting=good_view(4), position=7)
+        g.begin(f"{about}; a refused start leaves the old state", Lent(words, video=noise(video)))
+        g.at()
+    g.begin("a window start that is no multiple of 4", Lent(panel(**GOOD), video=noise(8), start=0x2FFFFFFE), due=[8])
+    g.setting("palette", [])
+    g.begin("a start is lent no palette", Lent(panel(**GOOD), video=noise(2)), due=[0])
+    g.at()
+
+
+def state_cases():
+    g = Group("states", "states from outside: each refusal of step, run and view change, the lowest over all views; starts")
+    g.canvas(8, 0x77)
+    for make in (refused_states, several_views, late_numbers, positions, starts):
+        make(g)
+
+
+def hand_scan(g):
+    """T1's panel: 4 clocks a line, 1 each of sync, back porch, active and front porch; 5 lines, 1, 1, 2 and 1 of these. So row 0
+    is at clock (1 + 1 + 0) x 4 + 1 + 1 = 10 of 20 and row 1 at clock 14."""
+    t1 = [0x7B, 0x4000, 0, 0, 0, 0x18000000, 4, 2, 0]
+    lent = Lent(t1, video=[0x00112233, 0x00AABBCC, 0x00445566, 0x00778899], palette=range(256))
+    sync, back, front = [[0, 1, 1, 0, 0]] + 3 * [[0, 1, 0, 0, 0]], *2 * [[[0, 0, 1, 0, 0]] + 3 * [[0, 0, 0, 0, 0]]]
+    row = lambda colour: [[0, 0, 1, 0, 0], [0, 0, 0, 0, 0], [0, 0, 0, 1, colour], [0, 0, 0, 0, 0]]
+    g.begin("T1's panel, clock by clock", lent, due=[0])
+    g.at(due=[*t1, 0x30000000, 0x18000000, 4, 0])
+    for clock, due in enumerate(sync + back + row(0x112233) + row(0xAABBCC) + front):
+        g.step(f"clock {clock}", lent, due=due)
+        if clock == 12:
+            g.at(due=[*t1, 0x30000000, 0x18000000, 4, 13])
+            g.view("the view moves by two rows, with the next frame", lent, 0x18000004, 8, due=[0])
+            g.at(due=[*t1, 0x30000000, 0x18000004, 8, 13])
+    g.at(due=[*t1, 0x30000000, 0x18000004, 8, 0])
+    moved = [*t1[:5], 0x18000004, 8, *t1[7:]]
+    for clock, due in enumerate(sync + back + row(0x445566)):
+        g.step(f"clock {20 + clock}", lent, due=due)
+        if clock == 0:
+            g.at(due=[*moved, 0x30000000, 0x18000004, 8, 1])
+
+    g.begin("the same by runs", lent, due=[0])
+    g.canvas(3, 0x99)
+    g.run("clocks 0 to 9", lent, 10, due=[0, 10])
+    g.shows(due=[0x99, 0x99, 0x99])
+    g.run("clock 10", lent, 1, due=[0, 1])
+    g.shows(due=[0x112233, 0x99, 0x99])
+    g.run("clocks 11 to 13", lent, 3, due=[0, 3])
+    g.shows(due=[0x112233, 0x99, 0x99])
+    g.run("clocks 14 to 19", lent, 2**64 - 1, due=[0, 6])
+    g.shows(due=[0x112233, 0xAABBCC, 0x99])
+    g.at(due=[*t1, 0x30000000, 0x18000000, 4, 0])
+    g.view("in a new frame, the first row alone", lent, 0x18000004, 8, due=[0])
+    g.run(None, lent, 0, due=[0, 0])
+    g.at(due=[*t1, 0x30000000, 0x18000004, 8, 0])
+    g.run(None, lent, 11, due=[0, 11])
+    g.shows(due=[0x445566, 0xAABBCC, 0x99])
+    g.at(due=[*moved, 0x30000000, 0x18000004, 8, 11])
+
+    every = Lent([*t1[:4], 0x3C0, *t1[5:]], video=lent.video, palette=range(256))
+    g.begin("all four signals exchanged", every, due=[0])
+    g.canvas(2, 0)
+    for clock, due in enumerate(([0, 0, 0, 1, 0xFFFFFF], [0, 0, 1, 1, 0xFFFFFF], [0, 0, 1, 1, 0xFFFFFF], [0, 0, 1, 1, 0xFFFFFF],
+                                 [0, 1, 0, 1, 0xFFFFFF])):
+        g.step(f"clock {clock}", every, due=due)
+    g.run(None, every, 5, due=[0, 5])
+    g.step("clock 10", every, due=[0, 1, 1, 0, 0xEEDDCC])
+    g.run(None, every, 100, due=[0, 9])
+    g.shows(due=[0, 0xAABBCC])
+
+    # 4 + 3 + 1 + 2 clocks a line, 2 + 2 + 2 + 3 lines: row 0 at clock (2 + 2 + 0) x 10 + 4 + 3 = 47 of 90, row 1 at 57
+    wide = Lent([0x7B, 0x01004081, 0x00100001, 3, *t1[4:]], video=lent.video, palette=range(256))
+    g.begin("HSPW 3, HBPD 2, HFPD 1, VSPW 1, VBPD 1, VFPD 2", wide, due=[0])
+    g.run(None, wide, 3, due=[0, 3])
+    g.step("clock 3, the last of HSYNC", wide, due=[0, 1, 1, 0, 0])
+    g.step("clock 4", wide, due=[0, 1, 0, 0, 0])
+    g.run(None, wide, 14, due=[0, 14])
+    g.step("clock 19, the last of VSYNC", wide, due=[0, 1, 0, 0, 0])
+    g.step("clock 20", wide, due=[0, 0, 1, 0, 0])
+    g.run(None, wide, 25, due=[0, 25])
+    g.step("clock 46", wide, due=[0, 0, 0, 0, 0])
+    g.step("clock 47: row 0", wide, due=[0, 0, 0, 1, 0x112233])
+    g.run(None, wide, 9, due=[0, 9])
+    g.step("clock 57: row 1", wide, due=[0, 0, 0, 1, 0xAABBCC])
+    g.shows(due=[0, 0xAABBCC])
+    g.run(None, wide, 33, due=[0, 32])
+    g.at(due=[*wide.words, 0x30000000, 0x18000000, 4, 0])
+
+    g.state("a state from outside: 20 is no position, 19 is the last", t1, position=20)
+    g.step(None, lent, due=[15])
+    g.run(None, lent, 0, due=[15])
+    g.view(None, lent, 0x18000004, 8, due=[15])
+    g.state(None, t1, position=19)
+    g.step(None, lent, due=[0, 0, 0, 0, 0])
+    g.at(due=[*t1, 0x30000000, 0x18000000, 4, 0])
+    g.state("in force 7, waiting 6, new 5", [*t1[:5], 0x181FFFFE, 2, 2, 0], waiting=(0x18000000, 3), position=3)
+    g.view(None, lent, 0x18000001, 5, due=[5])
+    g.step(None, lent, due=[6])
+    g.at(due=[*t1[:5], 0x181FFFFE, 2, 2, 0, 0x30000000, 0x18000000, 3, 3])
+
+
 def hand():
     """Words and answers as literals. The palette's entry i is the number i where nothing else is said, so that 5:6:5 shows the
     index i, below 32, as the colour i x 8, and larger ones as their high bits x 0x400 more."""
@@ -684,10 +1294,12 @@ def hand():
     g.case("row 2", lend(t1, two), "row", 1, 2, due=[11])
     g.case("column 1", lend(t1, two), "pixel", 0, 1, due=[11])
     g.case("a stretch past the end", lend(t1, two), "stretch", 2, 1, 2, due=[11])
+    hand_scan(g)
 
 
 def main():
-    for make in (hand, modes, colour_cases, screens, refusals, pairs, memory, count_cases, calls):
+    for make in (hand, modes, colour_cases, screens, refusals, pairs, memory, count_cases, calls, scan_cases, signal_cases,
+                 run_cases, view_cases, state_cases):
         make()
     folder = os.path.join(os.path.dirname(os.path.abspath(__file__)), "..", "crates", "conformance")
     os.makedirs(os.path.join(folder, "data"), exist_ok=True)

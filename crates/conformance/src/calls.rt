@@ -1,5 +1,5 @@
-// The calls that a vector file can name. Each is made with what is lent, and its answer held to what the line says is due: the
-// number of the refusal or 0, then the values.
+// The calls that a vector file can name, and those of them that keep nothing from line to line. Each is made with what is lent, and
+// its answer held to what the line says is due: the number of the refusal or 0, then the values.
 use super::entries::entries_agree;
 use super::entries::prefill;
 use super::lent::Lent;
@@ -29,6 +29,12 @@ pub(crate) enum Call {
     Row,
     Picture,
     Stretch,
+    Begin,
+    Step,
+    Run,
+    View,
+    At,
+    Shows,
 }
 
 // A call's line: the call, its number in the file, where its numbers and those that are due begin, and what is lent.
@@ -40,7 +46,7 @@ pub(crate) struct Case {
     pub lent: Lent,
 }
 
-fn answer_agrees(group: &[u8], text: &[u8], case: Case, answer: u32) -> bool {
+pub(crate) fn answer_agrees(group: &[u8], text: &[u8], case: Case, answer: u32) -> bool {
     agrees(
         group,
         case.line,
@@ -50,7 +56,7 @@ fn answer_agrees(group: &[u8], text: &[u8], case: Case, answer: u32) -> bool {
     )
 }
 
-fn value_agrees(group: &[u8], text: &[u8], case: Case, value: u64) -> bool {
+pub(crate) fn value_agrees(group: &[u8], text: &[u8], case: Case, value: u64) -> bool {
     let right = answer_agrees(group, text, case, 0);
     agrees(
         group,

@@ -43,7 +43,7 @@ fn difference(a: &[u32], b: &[u32]) -> usize {
     i
 }
 
-fn same_entries(group: &[u8], line: u64, out: &[u32], due: &[u32]) -> bool {
+pub(crate) fn same_entries(group: &[u8], line: u64, out: &[u32], due: &[u32]) -> bool {
     let i = difference(out, due);
     if out.len() <= i {
         return true;

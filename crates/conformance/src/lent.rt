@@ -1,11 +1,15 @@
-// What the cases of a vector file are lent: the settings that hold from their line on.
+// What the cases of a vector file are lent: the settings that hold from their line on, and the state of the scan, which its calls
+// change too.
 ghost use Rattle.io.specs.Counts.{Counts};
-use super::text::halves;
+use super::state::no_state;
+use super::state::state_at;
 use super::text::number_at;
 use super::text::word_at;
 use super::text::words;
+use scanout::state::State;
 
-// Where the lines of the latest settings have their numbers, and the small ones themselves.
+// Where the lines of the latest settings have their numbers, and the small ones themselves; the state of the scan, and how many
+// entries of the picture a run is lent.
 pub(crate) struct Lent {
     pub words: usize,
     pub palette: usize,
@@ -13,10 +17,13 @@ pub(crate) struct Lent {
     pub counted: bool,
     pub start: u32,
     pub hclk: u32,
+    pub state: State,
+    pub room: usize,
 }
 
 // Before any setting: all slices empty, since nothing stands past the text.
 pub(crate) fn nothing_lent(end: usize) -> Lent {
+    let state = no_state();
     Lent {
         words: end,
         palette: end,
@@ -24,12 +31,27 @@ pub(crate) fn nothing_lent(end: usize) -> Lent {
         counted: false,
         start: 0,
         hclk: 0,
+        state,
+        room: 0,
     }
+}
+
+// The settings of the scan.
+fn set_scan(key: &[u8], text: &[u8], at: usize, lent: Lent) -> Lent {
+    let mut l = lent;
+    if check::same(key, b"state") {
+        let state = state_at(text, at);
+        l.state = state;
+    }
+    if check::same(key, b"canvas") {
+        l.room = number_at(text, at, 0) as usize;
+    }
+    l
 }
 
 // The settings after a line that begins with this key; any other line leaves them.
 pub(crate) fn set(key: &[u8], text: &[u8], at: usize, lent: Lent) -> Lent {
-    let mut l = lent;
+    let mut l = set_scan(key, text, at, lent);
     if check::same(key, b"words") {
         l.words = at;
     }

@@ -3,11 +3,13 @@ ghost use Prim.Native.Nat.{_≤_};
 ghost use lib.ListN.{length};
 use super::calls::Call;
 use super::calls::Case;
-use super::calls::call_agrees;
 use super::lent::Lent;
 use super::lent::lend_video;
 use super::lent::nothing_lent;
 use super::lent::set;
+use super::scan::Judged;
+use super::scan::make_call;
+use super::scan::paint;
 use super::text::Until;
 use super::text::halves;
 use super::text::scan;
@@ -17,6 +19,28 @@ use super::text::words;
 enum Key {
     Calls(Call),
     Other,
+}
+
+fn scan_key_of(key: &[u8]) -> Key {
+    if check::same(key, b"begin") {
+        return Key::Calls(Call::Begin);
+    }
+    if check::same(key, b"step") {
+        return Key::Calls(Call::Step);
+    }
+    if check::same(key, b"run") {
+        return Key::Calls(Call::Run);
+    }
+    if check::same(key, b"view") {
+        return Key::Calls(Call::View);
+    }
+    if check::same(key, b"at") {
+        return Key::Calls(Call::At);
+    }
+    if check::same(key, b"shows") {
+        return Key::Calls(Call::Shows);
+    }
+    Key::Other
 }
 
 fn key_of(key: &[u8]) -> Key {
@@ -41,27 +65,40 @@ fn key_of(key: &[u8]) -> Key {
     if check::same(key, b"stretch") {
         return Key::Calls(Call::Stretch);
     }
-    Key::Other
+    scan_key_of(key)
 }
 
-fn with_video(group: &[u8], text: &[u8], case: Case, words: &[u32], palette: &[u16]) -> bool {
+fn with_video(
+    group: &[u8],
+    text: &[u8],
+    case: Case,
+    words: &[u32],
+    palette: &[u16],
+    picture: &mut [u32],
+) -> Judged {
     let mut video = [0u32; 40960];
     let n = lend_video(text, case.lent, &mut video);
-    call_agrees(group, text, case, words, palette, &video[..n])
+    make_call(group, text, case, words, palette, &video[..n], picture)
 }
 
-fn with_palette(group: &[u8], text: &[u8], case: Case, words: &[u32]) -> bool {
+fn with_palette(
+    group: &[u8],
+    text: &[u8],
+    case: Case,
+    words: &[u32],
+    picture: &mut [u32],
+) -> Judged {
     let lent = case.lent;
     let mut palette = [0u16; 260];
     let n = halves(text, lent.palette, &mut palette);
-    with_video(group, text, case, words, &palette[..n])
+    with_video(group, text, case, words, &palette[..n], picture)
 }
 
-fn with_words(group: &[u8], text: &[u8], case: Case) -> bool {
+fn with_words(group: &[u8], text: &[u8], case: Case, picture: &mut [u32]) -> Judged {
     let lent = case.lent;
     let mut nine = [0u32; 16];
     let n = words(text, lent.words, 0, 0, &mut nine);
-    with_palette(group, text, case, &nine[..n])
+    with_palette(group, text, case, &nine[..n], picture)
 }
 
 // How many cases were run, and how many of them differ.
@@ -77,23 +114,34 @@ struct Ran {
     lent: Lent,
 }
 
-fn run_call(group: &[u8], text: &[u8], case: Case) -> Ran {
-    let lent = case.lent;
-    if with_words(group, text, case) {
+fn run_call(group: &[u8], text: &[u8], case: Case, picture: &mut [u32]) -> Ran {
+    let judged = with_words(group, text, case, picture);
+    let lent = judged.lent;
+    if judged.right {
         return Ran {
             cases: 1,
             differ: 0,
-            lent: lent,
+            lent,
         };
     }
     Ran {
         cases: 1,
         differ: 1,
-        lent: lent,
+        lent,
     }
 }
 
-fn run_line(group: &[u8], text: &[u8], line: u64, at: usize, lent: Lent) -> Ran
+fn run_setting(key: &[u8], text: &[u8], at: usize, lent: Lent, picture: &mut [u32]) -> Ran {
+    paint(key, text, at, picture);
+    let lent = set(key, text, at, lent);
+    Ran {
+        cases: 0,
+        differ: 0,
+        lent,
+    }
+}
+
+fn run_line(group: &[u8], text: &[u8], line: u64, at: usize, lent: Lent, picture: &mut [u32]) -> Ran
     requires { ⌜ at ≤ length (now text) ⌝ }
 {
     let end = scan(text, at, Until::Space);
@@ -103,18 +151,15 @@ fn run_line(group: &[u8], text: &[u8], line: u64, at: usize, lent: Lent) -> Ran
             group,
             text,
             Case {
-                call: call,
-                line: line,
+                call,
+                line,
                 at: end,
-                due: due,
-                lent: lent,
+                due,
+                lent,
             },
+            picture,
         ),
-        Key::Other => Ran {
-            cases: 0,
-            differ: 0,
-            lent: set(&text[at..end], text, end, lent),
-        },
+        Key::Other => run_setting(&text[at..end], text, end, lent, picture),
     }
 }
 
@@ -134,10 +179,11 @@ pub(crate) fn run_lines(group: &[u8], text: &[u8]) -> Tally
         differ: 0,
     };
     let mut lent = nothing_lent(text.len());
+    let mut picture = [0u32; 1024];
     let mut line = 1;
     let mut at = 0;
     while at < text.len() {
-        let ran = run_line(group, text, line, at, lent);
+        let ran = run_line(group, text, line, at, lent, &mut picture);
         lent = ran.lent;
         tally = counted(tally, ran);
         at = scan(text, at, Until::LineEnd) + 1;

@@ -7,6 +7,8 @@ mod entries;
 mod lent;
 mod lines;
 mod report;
+mod scan;
+mod state;
 mod text;
 
 use lines::run_lines;
