@@ -1,5 +1,5 @@
-/* A small C host: document 01's cases T1 and T10 through the four calls of lcd.h. For each case one line says that the library
- * gives what the paper gives; where something differs, the line says what, and the program exits with 1. */
+/* A small C host: document 01's cases T1 and T10 through the calls of lcd.h. For each case one line says that the library gives
+ * what the paper gives; where something differs, the line says what, and the program exits with 1. */
 #include <inttypes.h>
 #include <stdint.h>
 #include <stdio.h>
@@ -59,6 +59,20 @@ static void t1_picture(void) {
     untouched("T1, entry past the picture", picture + 2, 1);
 }
 
+static void t1_pixels(void) {
+    static const uint32_t due[2] = {0x112233, 0xaabbcc};
+    for (uint32_t row = 0; row < 2; row++) {
+        uint32_t out[2] = {UNTOUCHED, UNTOUCHED};
+        same("T1, pixel", lcd_draw_pixel(t1_words, 9, START, t1_video, 2, palette, 256, row, 0, out, 2), 0);
+        same("T1, colour of the pixel", out[0], due[row]);
+        untouched("T1, entry past the pixel", out + 1, 1);
+    }
+    uint32_t out = UNTOUCHED;
+    same("T1, row outside", lcd_draw_pixel(t1_words, 9, START, t1_video, 2, palette, 256, 2, 0, &out, 1), 11);
+    same("T1, row outside, no entry", lcd_draw_pixel(t1_words, 9, START, t1_video, 2, palette, 256, 2, 0, &out, 0), 10);
+    untouched("T1, entry of a refused pixel", &out, 1);
+}
+
 static void t1(void) {
     char text[100];
     same("T1, check", lcd_check(t1_words, 9, START, t1_video, 2), 0);
@@ -69,7 +83,91 @@ static void t1(void) {
         exit(1);
     }
     t1_picture();
-    puts("T1: check, counts, rows and picture as in the paper");
+    t1_pixels();
+    puts("T1: check, counts, rows, picture and pixels as in the paper");
+}
+
+/* ---- T1's panel clock by clock: 5 lines of 4 clocks; the pixel of row r appears at clock (1 + 1 + r) x 4 + 1 + 1 */
+
+enum { T1_FRAME = 20, T1_FIRST = 10, T1_SECOND = 14 };
+
+/* One word more than T1's: a viewport that begins one row later fits too. */
+static const uint32_t t1_longer[3] = {0x00112233, 0x00aabbcc, 0x00445566};
+
+static void t1_start(uint32_t *scan) {
+    prefill(scan, LCD_SCAN_ENTRIES + 1);
+    same("T1, start", lcd_start(t1_words, 9, START, t1_longer, 3, scan, LCD_SCAN_ENTRIES + 1), 0);
+    for (int i = 0; i < 9; i++)
+        same("T1, word in force", scan[LCD_WORDS + i], t1_words[i]);
+    same("T1, window start", scan[LCD_WINDOW_START], START);
+    same("T1, pending LCDSADDR1", scan[LCD_PENDING_LCDSADDR1], t1_words[5]);
+    same("T1, pending LCDSADDR2", scan[LCD_PENDING_LCDSADDR2], t1_words[6]);
+    same("T1, position", scan[LCD_POSITION], 0);
+    untouched("T1, entry past the state", scan + LCD_VSYNC, LCD_SCAN_ENTRIES + 1 - LCD_VSYNC);
+}
+
+/* VDEN is active at two clocks, which show the two pixels; VSYNC through the first line, HSYNC at each line's first clock. */
+static void t1_steps(void) {
+    uint32_t scan[LCD_SCAN_ENTRIES + 1];
+    t1_start(scan);
+    for (uint32_t clock = 0; clock < T1_FRAME; clock++) {
+        same("T1, position before a step", scan[LCD_POSITION], clock);
+        same("T1, step", lcd_step(scan, LCD_SCAN_ENTRIES + 1, t1_longer, 3, palette, 256), 0);
+        same("T1, VSYNC", scan[LCD_VSYNC], clock < 4);
+        same("T1, HSYNC", scan[LCD_HSYNC], clock % 4 == 0);
+        same("T1, VDEN", scan[LCD_VDEN], clock == T1_FIRST || clock == T1_SECOND);
+        same("T1, VD", scan[LCD_VD], clock == T1_FIRST ? 0x112233 : clock == T1_SECOND ? 0xaabbcc : 0);
+        same("T1, clocks of a step", scan[LCD_TAKEN], 1);
+    }
+    same("T1, position after a frame", scan[LCD_POSITION], 0);
+    untouched("T1, entry past the scan", scan + LCD_SCAN_ENTRIES, 1);
+    puts("T1: a frame in 20 steps, with the two pixels at clocks 10 and 14");
+}
+
+/* A run: so many clocks taken, the next position, and the picture's two entries as they are then. */
+static void t1_run(uint32_t *scan, uint32_t *picture, uint64_t clocks, uint32_t taken, uint32_t position, uint32_t first,
+                   uint32_t second) {
+    same("T1, run", lcd_run(scan, LCD_SCAN_ENTRIES + 1, t1_longer, 3, palette, 256, clocks, picture, 3), 0);
+    same("T1, clocks of a run", scan[LCD_TAKEN], taken);
+    same("T1, position after a run", scan[LCD_POSITION], position);
+    same("T1, first entry after a run", picture[0], first);
+    same("T1, second entry after a run", picture[1], second);
+    untouched("T1, entry past the run's picture", picture + 2, 1);
+}
+
+static void t1_runs(void) {
+    uint32_t scan[LCD_SCAN_ENTRIES + 1], picture[3], drawn[2];
+    t1_start(scan);
+    prefill(picture, 3);
+    same("T1, picture", lcd_draw_picture(t1_words, 9, START, t1_longer, 3, palette, 256, drawn, 2), 0);
+    t1_run(scan, picture, 0, 0, 0, UNTOUCHED, UNTOUCHED);
+    t1_run(scan, picture, T1_FIRST, T1_FIRST, T1_FIRST, UNTOUCHED, UNTOUCHED);
+    t1_run(scan, picture, 1, 1, T1_FIRST + 1, drawn[0], UNTOUCHED);
+    t1_run(scan, picture, UINT64_MAX, T1_FRAME - T1_FIRST - 1, 0, drawn[0], drawn[1]);
+    prefill(picture, 3);
+    t1_run(scan, picture, T1_FRAME, T1_FRAME, 0, drawn[0], drawn[1]);
+    puts("T1: a frame in four runs and in one, each with the picture");
+}
+
+/* A viewport one row later waits for the next frame; refused calls leave the scan as it is. */
+static void t1_viewport(void) {
+    uint32_t scan[LCD_SCAN_ENTRIES + 1], kept[LCD_SCAN_ENTRIES + 1], picture[3];
+    t1_start(scan);
+    prefill(picture, 3);
+    t1_run(scan, picture, T1_SECOND, T1_SECOND, T1_SECOND, 0x112233, UNTOUCHED);
+    same("T1, viewport", lcd_change_viewport(scan, LCD_SCAN_ENTRIES + 1, t1_longer, 3, t1_words[5] + 2, t1_words[6] + 2), 0);
+    same("T1, LCDSADDR1 in force", scan[LCD_WORDS + 5], t1_words[5]);
+    t1_run(scan, picture, T1_FRAME, T1_FRAME - T1_SECOND, 0, 0x112233, 0xaabbcc);
+    t1_run(scan, picture, T1_FRAME, T1_FRAME, 0, 0xaabbcc, 0x445566);
+    same("T1, LCDSADDR1 of the next frame", scan[LCD_WORDS + 5], t1_words[5] + 2);
+    memcpy(kept, scan, sizeof scan);
+    same("T1, viewport past the memory",
+         lcd_change_viewport(scan, LCD_SCAN_ENTRIES + 1, t1_longer, 3, t1_words[5] + 4, t1_words[6] + 4), 8);
+    same("T1, run of a short scan", lcd_run(scan, LCD_SCAN_ENTRIES - 1, t1_longer, 3, palette, 256, 1, picture, 3), 10);
+    same("T1, scan after refusals", memcmp(kept, scan, sizeof scan), 0);
+    scan[LCD_POSITION] = T1_FRAME;
+    same("T1, position past the frame", lcd_step(scan, LCD_SCAN_ENTRIES + 1, t1_longer, 3, palette, 256), 15);
+    puts("T1: a new viewport comes into force with the next frame");
 }
 
 /* ---- T10: T9's panel, 240 by 320 at 16 bits, with memory that just suffices and one word less */
@@ -106,6 +204,9 @@ static void t10_one_short(void) {
 
 int main(void) {
     t1();
+    t1_steps();
+    t1_runs();
+    t1_viewport();
     t10_suffices();
     t10_one_short();
     return 0;

@@ -5,6 +5,7 @@
  * window_start  the byte address of the first word of `video`
  * video         video memory, as 32-bit words
  * palette       the 256 palette entries
+ * scan          the state of a scan, as 18 entries (see `lcd_scan_entry`); what follows stays
  * *_len         how many entries (not bytes) the slice before it has
  *
  * Each call returns 0 where it is done. Else it returns the number of the refusal, and nothing lent is changed:
@@ -19,9 +20,12 @@
  *    8  window_start isn't a multiple of 4, or a word of some row lies outside `video`
  *    9  ENVID is 0
  *   10  a slice is too short for the call, or the palette has not exactly 256 entries
- *   11  the row is outside the panel
+ *   11  the row or the column is outside the panel
+ *   13  LCDBANK of the pending viewport, or of the new one, differs from that in force
+ *   15  the position is not below the frame's clocks
  *
- * The lowest number that applies is given; only 10 for fewer than nine words comes before all.
+ * The lowest number that applies is given; only 10 for fewer than nine words, or for a scan that is read and has fewer than 18
+ * entries, comes before all.
  *
  * The calls keep nothing between them, allocate nothing and may run on several threads at a time. A pointer may be any aligned
  * address, not null, where its length is 0. A slice that a call writes may not overlap another slice of the same call. */
@@ -44,8 +48,14 @@ uint32_t lcd_check(const uint32_t *words, size_t words_len, uint32_t window_star
  * Refuses 10 (fewer than nine words), then 1 to 7, then 10 (`counts` has fewer than three entries). */
 uint32_t lcd_counts(const uint32_t *words, size_t words_len, uint32_t hclk, uint64_t *counts, size_t counts_len);
 
-/* Draws row `row`, counted from 0, to the first W entries of `out`: colours 0xRRGGBB, VD23..VD0 before INVVD. Further entries
- * stay.
+/* Draws the pixel in row `row` and column `column`, both counted from 0, to the first entry of `out`: a colour 0xRRGGBB, VD23..VD0
+ * before INVVD. Further entries stay.
+ * Refuses 10 (fewer than nine words), then 1 to 9, then 10 (the palette has not 256 entries, or `out` none), then 11. */
+uint32_t lcd_draw_pixel(const uint32_t *words, size_t words_len, uint32_t window_start, const uint32_t *video, size_t video_len,
+                        const uint16_t *palette, size_t palette_len, uint32_t row, uint32_t column, uint32_t *out,
+                        size_t out_len);
+
+/* Draws row `row`, counted from 0, to the first W entries of `out`: colours as for a pixel. Further entries stay.
  * Refuses 10 (fewer than nine words), then 1 to 9, then 10 (the palette has not 256 entries, or `out` fewer than W), then 11. */
 uint32_t lcd_draw_row(const uint32_t *words, size_t words_len, uint32_t window_start, const uint32_t *video, size_t video_len,
                       const uint16_t *palette, size_t palette_len, uint32_t row, uint32_t *out, size_t out_len);
@@ -55,6 +65,49 @@ uint32_t lcd_draw_row(const uint32_t *words, size_t words_len, uint32_t window_s
 uint32_t lcd_draw_picture(const uint32_t *words, size_t words_len, uint32_t window_start, const uint32_t *video,
                           size_t video_len, const uint16_t *palette, size_t palette_len, uint32_t *picture,
                           size_t picture_len);
+
+/* ---- the scan, clock by clock
+ *
+ * A scan is started by lcd_start and goes on with lcd_step, lcd_run and lcd_change_viewport in any order. All that it knows lies in
+ * its 18 entries, so copying them copies the scan, and a state from elsewhere may be filled in by hand: each call checks entries 0
+ * to 12 again, and 13 to 17 are only written. A refused call leaves all of them. */
+enum lcd_scan_entry {
+    LCD_WORDS = 0,              /* 0 to 8: the nine words in force, in their order */
+    LCD_WINDOW_START = 9,       /* the byte address of the first word of `video` */
+    LCD_PENDING_LCDSADDR1 = 10, /* the viewport that comes into force when clock 0 of the next frame is taken */
+    LCD_PENDING_LCDSADDR2 = 11,
+    LCD_POSITION = 12,          /* the number of the next clock in its frame, from 0 */
+    LCD_VSYNC = 13,             /* the levels of the last step's clock, 0 or 1, as INVVFRAME, INVVLINE and INVVDEN give them */
+    LCD_HSYNC = 14,
+    LCD_VDEN = 15,
+    LCD_VD = 16,                /* and its 24 data lines, as INVVD gives them */
+    LCD_TAKEN = 17,             /* how many clocks the last step or run took */
+    LCD_SCAN_ENTRIES = 18
+};
+
+/* Starts a scan: the words, the window start, the words' viewport as the pending one and position 0, to entries 0 to 12; 13 to 17
+ * stay.
+ * Refuses 10 (fewer than nine words), then 1 to 9, then 10 (`scan` has fewer than 18 entries). */
+uint32_t lcd_start(const uint32_t *words, size_t words_len, uint32_t window_start, const uint32_t *video, size_t video_len,
+                   uint32_t *scan, size_t scan_len);
+
+/* Takes one clock: the next state to entries 0 to 12, the clock's levels to 13 to 16, and 1 to entry 17.
+ * Refuses 10 (`scan` has fewer than 18 entries), then 1 to 8 of the viewport in force and of the pending one, 9, 10 (the palette
+ * has not 256 entries), 13, 15. */
+uint32_t lcd_step(uint32_t *scan, size_t scan_len, const uint32_t *video, size_t video_len, const uint16_t *palette,
+                  size_t palette_len);
+
+/* Takes up to `clocks` clocks, but none past the end of the frame: the next state to entries 0 to 12, and to entry 17 how many it
+ * took; 13 to 16 stay. The colours of the active clocks go to their entries of `picture`, W x H in reading order; all others stay.
+ * Refuses 10 (`scan` has fewer than 18 entries), then 1 to 8 of the viewport in force and of the pending one, 9, 10 (the palette
+ * has not 256 entries, or `picture` fewer than W x H), 13, 15. */
+uint32_t lcd_run(uint32_t *scan, size_t scan_len, const uint32_t *video, size_t video_len, const uint16_t *palette,
+                 size_t palette_len, uint64_t clocks, uint32_t *picture, size_t picture_len);
+
+/* Brings a new LCDSADDR1 and LCDSADDR2, to entries 10 and 11: they come into force with the next frame.
+ * Refuses 10 (`scan` has fewer than 18 entries), then 1 to 8 of the viewport in force, the pending one and the new one, 9, 13, 15. */
+uint32_t lcd_change_viewport(uint32_t *scan, size_t scan_len, const uint32_t *video, size_t video_len, uint32_t lcdsaddr1,
+                             uint32_t lcdsaddr2);
 
 #ifdef __cplusplus
 }

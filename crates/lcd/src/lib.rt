@@ -1,7 +1,7 @@
 // The C interface (document 01, "The bench": the host is written in C and calls the check and the row drawing on numbers and
-// slices). A slice comes from C as a pointer and a length; host/lcd.h declares the four calls. Each is thin: it takes the nine
-// words from their slice and asks the crate below. 0 is done, any other answer the number of the refusal, and then nothing lent
-// is changed.
+// slices). A slice comes from C as a pointer and a length; host/lcd.h declares the calls. Each is thin: it takes the nine words, or
+// a scan's state (scan.rt), from their slice and asks the crate below. 0 is done, any other answer the number of the refusal, and
+// then nothing lent is changed.
 ghost use mathlib.Core.Path.{_≡_};
 ghost use Rattle.laws.specs.Answers.{leaves};
 ghost use Rattle.memory.specs.Memory.{check};
@@ -16,6 +16,8 @@ use panel::timing::frame_ticks;
 use registers::Loaded;
 use registers::Words;
 use registers::load;
+
+pub mod scan;
 
 // The check: 10 for a slice short of nine words, then 1 to 8.
 #[no_mangle]

@@ -1,0 +1,160 @@
+-- The calls of the C interface for one pixel and for the scan (document 01, "Clocks and lines" and "Numbers of refusal"). A state is
+-- one lent slice of 18 entries; where it has fewer, no state can be read, and 10 stands before all. Assumes nothing.
+use mathlib.Core.Bool.{false, _||_}
+use mathlib.Core.List.{List, [], _∷_, _++_}
+use Prim.Native.Nat.{ℕ}
+use lib.ListN.{length, getD, set}
+use Rattle.laws.specs.Answers.{Answer, accepted, refused, judged, Outcome, leaves, outcome, outcomeOn}
+use Rattle.laws.specs.Cases.{Case, _when_, lowest}
+use Rattle.laws.specs.Storing.{stores}
+use Rattle.drawing.specs.Colour.{colour}
+use Rattle.drawing.specs.Drawing.{tooShort, rowOutside, columnOutside, drawingCases}
+use Rattle.registers.specs.Loading.{inOrder, load}
+use Rattle.registers.specs.declared.Words.{Words}
+use Rattle.signals.specs.declared.clock.Clock.{Clock}
+use Rattle.scanout.specs.Calls.{Lent, start, step, run, change}
+use Rattle.scanout.specs.Core.{lending}
+use Rattle.scanout.specs.declared.state.State.{State}
+use Rattle.scanout.specs.declared.state.Viewport.{Viewport}
+
+-- ---- one pixel
+
+-- 10: "another lent slice too short for its call": no entry for the colour
+abbrev pub entryCases : ℕ → List Case
+entryCases entries = 10 when tooShort entries 1 ∷ []
+
+-- its number
+unfoldable pub judgeEntries : ℕ → ℕ
+judgeEntries entries = lowest (entryCases entries)
+
+-- the colour goes to the first entry, the others stay
+unfoldable pub putColour : ℕ → List ℕ → Outcome
+putColour v out = outcome (judgeEntries (length out)) out (set out 0 v)
+
+-- what one pixel is judged by: 1 to 8, 9, 10, 11
+abbrev pub pixelCases : Words → ℕ → List ℕ → List ℕ → ℕ → ℕ → List Case
+pixelCases w window memory palette r c =
+    drawingCases w window (length memory) (length palette) false ++ (11 when (rowOutside w r || columnOutside w c) ∷ [])
+
+-- "The lowest number that applies to the call is given": of the pixel's cases and of the entry's
+unfoldable pub judgePixelIn : Words → ℕ → List ℕ → List ℕ → ℕ → ℕ → List ℕ → ℕ
+judgePixelIn w window memory palette r c out = lowest (pixelCases w window memory palette r c ++ entryCases (length out))
+
+-- "drawing this one pixel": its colour to the first entry
+unfoldable pub drawPixelIn : Words → ℕ → List ℕ → List ℕ → ℕ → ℕ → List ℕ → Outcome
+drawPixelIn w window memory palette r c out =
+    outcome (judgePixelIn w window memory palette r c out) out (set out 0 (colour w window memory palette r c))
+
+-- the words come as a slice: 10 for one short of nine stands before all
+unfoldable pub drawPixel : List ℕ → ℕ → List ℕ → List ℕ → ℕ → ℕ → List ℕ → Outcome
+drawPixel words window memory palette r c out =
+    outcomeOn (load words) out (λ w. drawPixelIn w window memory palette r c out)
+
+-- ---- the state in its slice: "the nine words in force, the window start, the waiting view (LCDSADDR1 and 2) and the position"
+
+-- as it is read: entries 0 to 8, 9, 10 and 11, 12
+abbrev pub stateOf : List ℕ → State
+stateOf scan =
+    record {
+      words = inOrder scan;
+      «window_start» = getD scan 9 0;
+      pending = record { lcdsaddr1 = getD scan 10 0; lcdsaddr2 = getD scan 11 0 };
+      position = getD scan 12 0;
+    }
+
+-- its entries, in the same order
+abbrev pub entriesOf : State → List ℕ
+entriesOf s =
+    s .words .lcdcon1
+    ∷ s .words .lcdcon2
+    ∷ s .words .lcdcon3
+    ∷ s .words .lcdcon4
+    ∷ s .words .lcdcon5
+    ∷ s .words .lcdsaddr1
+    ∷ s .words .lcdsaddr2
+    ∷ s .words .lcdsaddr3
+    ∷ s .words .tpal
+    ∷ s .«window_start»
+    ∷ s .pending .lcdsaddr1
+    ∷ s .pending .lcdsaddr2
+    ∷ s .position
+    ∷ []
+
+-- a slice in which it is stored; further entries stay
+unfoldable pub putState : State → List ℕ → List ℕ
+putState s scan = stores (λ i. getD (entriesOf s) i 0) 0 13 scan
+
+-- 10: "another lent slice too short for its call": fewer than 18 entries for the scan
+abbrev pub judgeSlice : List ℕ → ℕ
+judgeSlice scan = lowest (10 when tooShort (length scan) 18 ∷ [])
+
+-- the state that a slice gives
+unfoldable pub loadScan : List ℕ → Answer State
+loadScan scan = judged (judgeSlice scan) (stateOf scan)
+
+-- ---- start
+
+-- a state is stored where the slice has room for it
+unfoldable pub putStarted : State → List ℕ → Outcome
+putStarted s scan = outcome (judgeSlice scan) scan (putState s scan)
+
+-- "A start puts the given view in both places and position 0."
+unfoldable pub startScan : List ℕ → ℕ → List ℕ → List ℕ → Outcome
+startScan words window memory scan = outcomeOn (start words window memory) scan (λ s. putStarted s scan)
+
+-- ---- step
+
+-- a clock's levels, and that one clock was taken
+abbrev pub levels : Clock → List ℕ
+levels k = k .vsync ∷ k .hsync ∷ k .vden ∷ k .vd ∷ 1 ∷ []
+
+-- the next state to entries 0 to 12, and these to 13 to 17
+unfoldable pub putStep : Clock → State → List ℕ → List ℕ
+putStep k s scan = stores (λ i. getD (levels k) i 0) 13 5 (putState s scan)
+
+-- "One step gives one clock's levels and the next state."
+unfoldable pub stepOn : State → Lent → List ℕ → Outcome
+stepOn s l scan = outcomeOn (step s l) scan (λ k. leaves 0 (putStep (k .clock) (k .next) scan))
+
+-- of the state that the slice gives
+unfoldable pub stepScan : List ℕ → List ℕ → List ℕ → Outcome
+stepScan scan memory palette = outcomeOn (loadScan scan) scan (λ s. stepOn s (lending memory palette) scan)
+
+-- ---- run
+
+-- the next state to entries 0 to 12, and to 17 what a run "reports": "how many it took"
+unfoldable pub putRun : ℕ → State → List ℕ → List ℕ
+putRun count s scan = set (putState s scan) 17 count
+
+-- what a run leaves: its number and the scan's slice, and the picture
+pub record RanLeft : Type 0 where
+  pub scan : Outcome
+  pub picture : List ℕ
+
+abbrev pub ranLeaves : Outcome → List ℕ → RanLeft
+ranLeaves o p = record { scan = o; picture = p }
+
+-- "It leaves the state that the same number of single steps leaves."
+unfoldable pub runOn : State → Lent → ℕ → List ℕ → List ℕ → RanLeft
+runOn s l n picture scan =
+    ranLeaves (outcomeOn (run s l n picture .answer) scan (λ t. leaves 0 (putRun (t .count) (t .next) scan)))
+    (run s l n picture .left)
+
+-- "A run takes up to a stated number of clocks"; where no state can be read, "lent memory stays"
+unfoldable pub runLoaded : Answer State → Lent → ℕ → List ℕ → List ℕ → RanLeft
+runLoaded (accepted s) l n picture scan = runOn s l n picture scan
+runLoaded (refused m) l n picture scan = ranLeaves (leaves m scan) picture
+
+unfoldable pub runScan : List ℕ → List ℕ → List ℕ → ℕ → List ℕ → RanLeft
+runScan scan memory palette n picture = runLoaded (loadScan scan) (lending memory palette) n picture scan
+
+-- ---- viewport change
+
+-- "becomes the waiting view if accepted"
+unfoldable pub changeOn : State → List ℕ → Viewport → List ℕ → Outcome
+changeOn s memory v scan = outcomeOn (change s memory v) scan (λ t. leaves 0 (putState t scan))
+
+-- "A view change brings new LCDSADDR1 and 2"
+unfoldable pub changeScan : List ℕ → List ℕ → ℕ → ℕ → Outcome
+changeScan scan memory a b =
+    outcomeOn (loadScan scan) scan (λ s. changeOn s memory (record { lcdsaddr1 = a; lcdsaddr2 = b }) scan)
