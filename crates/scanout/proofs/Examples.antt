@@ -24,11 +24,12 @@ use Rattle.signals.specs.Parts.{partAt, linePart, clockPart}
 use Rattle.signals.specs.Pixel.{inRow, spotOf, spotAt, pixelClock}
 use Rattle.signals.specs.declared.pixel.Spot.the-variants.{Pixel, Blank}
 use Rattle.scanout.specs.Answers.{Shown}
-use Rattle.scanout.specs.Calls.{Lent, begun, spotColour, nextColour, judgeStep, step, countOf, store, storeNext, drawn, judgeRun, run}
-use Rattle.scanout.specs.Lists.{aStep, orElse, next}
-use Rattle.scanout.specs.Refusals.{bankDiffers, pastFrame, judgeScan}
+use Rattle.scanout.specs.Calls.{Lent, begun, spotColour, nextColour, judgeStep, step, countOf, store, storeNext, drawn, judgeRun, run, change}
+use Rattle.scanout.specs.Lists.{aStep, aRun, aChange, orElse, numberOf, refusal, next, clocks, pendingAfter, pictureAfter, Calls, nothing, _then_, final, taken, lastView, pictureLeft, callsBefore, frameView}
+use Rattle.scanout.specs.Refusals.{bankDiffers, pastFrame, judgeScan, judgeChange}
 use Rattle.scanout.specs.State.{shownWords, advance, after}
 use Rattle.scanout.specs.declared.state.State.{State}
+use Rattle.scanout.specs.declared.state.Viewport.{Viewport}
 
 -- ---- T1: one column, two rows, at 24 bits; every part of a line and of a frame but the two rows is 1 long
 
@@ -82,6 +83,45 @@ pub record T1Scan : Type 0 where
 pub t1-scan : T1Scan
 unfolding step judged judgeStep judgeScan lowest lower reservedBit notTft noSuchMode outsideModes swapsIllegal storedBits rowSizeWrong endDiffers pastBank rowOffset outsideMemory wordOutside rowAddress someBelow videoOff paletteWrong bankDiffers pastFrame lineClocks frameLines frameClocks clockOf clockAt level dataWord inSync showsPixel partAt linePart clockPart inRow spotOf spotAt spotColour nextColour shownWords advance next orElse colour rowColour storedPixel format cut24 shown firstWord Order.inOrder Order.pixelBits run judgeRun tooShort outcome countOf drawn store storeNext after
 t1-scan = record { frame = refl; inverted = refl; whole = refl; front = refl; back = refl }
+
+-- ---- the same panel with a third word of memory, and a viewport one row further on that comes in mid-frame
+
+abbrev three : Lent
+three = record { memory = 0x00112233 ∷ 0x00AABBCC ∷ 0x00445566 ∷ []; palette = replicate 256 0 }
+
+abbrev further : Viewport
+further = record { lcdsaddr1 = 0x18000002; lcdsaddr2 = 6 }
+
+-- one picture lent to all runs; the last call asks for another bank
+abbrev moving : Calls
+moving =
+    nothing
+    then aRun three 5 (7 ∷ 8 ∷ [])
+    then aChange (three .memory) further
+    then aRun three 100 (7 ∷ 8 ∷ [])
+    then aRun three 11 (0x112233 ∷ 0xAABBCC ∷ [])
+    then aChange (three .memory) (record { lcdsaddr1 = 0x18200002; lcdsaddr2 = 6 })
+
+pub record T1Moved : Type 0 where
+  pub first-view : frameView (began 0) moving 0 ≡ record { lcdsaddr1 = 0x18000000; lcdsaddr2 = 4 }
+  pub second-view : frameView (began 0) moving 1 ≡ further
+  -- 5 clocks, the 15 that are left, and 11 of the next frame, the tenth of which, from 0, is the first pixel's
+  pub clocks-taken : taken (began 0) moving ≡ 31
+  pub left : pictureLeft (began 0) (7 ∷ 8 ∷ []) moving ≡ 0xAABBCC ∷ 0xAABBCC ∷ []
+  pub position : final (began 0) moving .position ≡ 11
+  pub refused : refusal (final (began 0) moving) (aChange (three .memory) (record { lcdsaddr1 = 0x18200002; lcdsaddr2 = 6 })) ≡ 8
+
+pub t1-moved : T1Moved
+unfolding step judged judgeStep judgeScan lowest lower reservedBit notTft noSuchMode outsideModes swapsIllegal storedBits rowSizeWrong endDiffers pastBank rowOffset outsideMemory wordOutside rowAddress someBelow videoOff paletteWrong bankDiffers pastFrame lineClocks frameLines frameClocks clockOf clockAt level dataWord inSync showsPixel partAt linePart clockPart inRow spotOf spotAt spotColour nextColour shownWords advance next orElse colour rowColour storedPixel format cut24 shown firstWord Order.inOrder Order.pixelBits run judgeRun tooShort outcome countOf drawn store storeNext after final taken clocks lastView pendingAfter pictureLeft pictureAfter callsBefore frameView refusal numberOf change judgeChange
+t1-moved =
+    record {
+      first-view = refl;
+      second-view = refl;
+      clocks-taken = refl;
+      left = refl;
+      position = refl;
+      refused = refl;
+    }
 
 -- ---- T8: 4 lines come before the first row, 30 clocks before the first column, and a line has 280
 
