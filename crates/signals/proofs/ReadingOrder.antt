@@ -3,13 +3,16 @@
 use mathlib.Core.Path.{_≡_, refl, sym, ap, ap₂, _∙_}
 use Prim.Native.Nat.{ℕ, zero, suc, _+_, _-_, _*_, _/_, _%_, _<_, _≤_}
 use native.Mathlib.Decide.{decLt}
-use native.Mathlib.Nat.{div-add-mod', mod-lt, add-mul, mul-le-mul-right, le-of-eq}
+use native.Mathlib.Nat.{div-add-mod', mod-lt, add-mul, mul-le-mul-right, le-of-eq, zero-div}
+use native.Mathlib.Numerals.{add-one}
 use native.Mathlib.Omega.{arith}
 use borrow.Author.Tests.{lt-ltb, le-ltb}
 use lib.Arith.{digits-div, digits-mod}
 use Rattle.panel.specs.Timing.{Timing, lineClocks}
 use Rattle.signals.specs.Parts.{linesBefore, clocksBefore}
-use Rattle.signals.specs.Pixel.{pixelClock, columnsBefore, pixelsInLines, pixelsBefore}
+use Rattle.signals.specs.Core.{columnsBefore, pixelsInLines, pixelsByLines}
+use Rattle.signals.specs.Pixel.{spotAt, pixelClock, countIn, pixelsBefore}
+use Rattle.signals.specs.declared.pixel.Spot.{Spot}
 use Rattle.signals.proofs.Positions.{Lies, ahead, among, past, lies, wide, high, line-room, some-clocks, At, Shows, pixel, blank, shows, at-pixel-clock}
 
 -- ---- pixels before a clock of a line, by where the line lies
@@ -106,33 +109,33 @@ module _ (t : Timing) where
           all-past (linesBefore t) (high t) (wide t) line (cols clock) h
           ∙ sym (all-past (linesBefore t) (high t) (wide t) line (cols clock′) h)
 
-  -- ---- the three laws
+  -- ---- at a pixel's clock, after it, and after a blank one
 
-  pub before-pixel : (p r c : ℕ) → At t p r c → pixelsBefore t p ≡ r * wide t + c
-  unfolding pixelsBefore columnsBefore
-  before-pixel p r c a =
+  by-lines-before : (p r c : ℕ) → At t p r c → pixelsByLines t p ≡ r * wide t + c
+  unfolding pixelsByLines columnsBefore
+  by-lines-before p r c a =
       some-among (linesBefore t) (high t) (wide t) (p / lineClocks t) (cols (p % lineClocks t)) r (a .row) (a .line)
       ∙ omega (arith, a .clock, a .column)
 
-  pub after-pixel : (p r c : ℕ) → At t p r c → pixelsBefore t (p + 1) ≡ r * wide t + c + 1
-  unfolding pixelsBefore columnsBefore
-  after-pixel p r c a = go (next (lineClocks t) p (some-clocks t))
+  by-lines-after : (p r c : ℕ) → At t p r c → pixelsByLines t (p + 1) ≡ r * wide t + c + 1
+  unfolding pixelsByLines columnsBefore
+  by-lines-after p r c a = go (next (lineClocks t) p (some-clocks t))
     where
-      go : Next (lineClocks t) p → pixelsBefore t (p + 1) ≡ r * wide t + c + 1
+      go : Next (lineClocks t) p → pixelsByLines t (p + 1) ≡ r * wide t + c + 1
       go (inLine h e e′) =
           some-among (linesBefore t) (high t) (wide t) ((p + 1) / lineClocks t) (cols ((p + 1) % lineClocks t)) r (a .row) (e ∙ a .line)
           ∙ omega (arith, e′, a .clock, a .column)
       go (newLine h e e′) = absurd (omega (arith, a .clock, a .column, line-room t))
 
-  pub after-blank : (p : ℕ) → ((r c : ℕ) → At t p r c → ⊥) → pixelsBefore t (p + 1) ≡ pixelsBefore t p
-  unfolding pixelsBefore columnsBefore
-  after-blank p none = go (next (lineClocks t) p (some-clocks t)) (lies (clocksBefore t) (wide t) (p % lineClocks t))
+  by-lines-blank : (p : ℕ) → ((r c : ℕ) → At t p r c → ⊥) → pixelsByLines t (p + 1) ≡ pixelsByLines t p
+  unfolding pixelsByLines columnsBefore
+  by-lines-blank p none = go (next (lineClocks t) p (some-clocks t)) (lies (clocksBefore t) (wide t) (p % lineClocks t))
     where
-      stays : cols (p % lineClocks t + 1) ≡ cols (p % lineClocks t) → (p + 1) / lineClocks t ≡ p / lineClocks t → (p + 1) % lineClocks t ≡ p % lineClocks t + 1 → pixelsBefore t (p + 1) ≡ pixelsBefore t p
+      stays : cols (p % lineClocks t + 1) ≡ cols (p % lineClocks t) → (p + 1) / lineClocks t ≡ p / lineClocks t → (p + 1) % lineClocks t ≡ p % lineClocks t + 1 → pixelsByLines t (p + 1) ≡ pixelsByLines t p
       stays s e e′ =
           ap₂ count e e′ ∙ same-columns (p / lineClocks t) (p % lineClocks t + 1) (p % lineClocks t) s
 
-      go : Next (lineClocks t) p → Lies (clocksBefore t) (wide t) (p % lineClocks t) → pixelsBefore t (p + 1) ≡ pixelsBefore t p
+      go : Next (lineClocks t) p → Lies (clocksBefore t) (wide t) (p % lineClocks t) → pixelsByLines t (p + 1) ≡ pixelsByLines t p
       go (inLine h e e′) (ahead k) = stays (omega arith) e e′
       go (inLine h e e′) (past k) = stays (omega arith) e e′
       go (inLine h e e′) (among c k q) =
@@ -141,6 +144,39 @@ module _ (t : Timing) where
           (λ r h′ l. none r c (record { row = h′; column = k; line = l; clock = q }))
       go (newLine h e e′) k =
           ap₂ count e e′ ∙ first-of-line (p / lineClocks t) ∙ ap (count (p / lineClocks t)) (omega arith)
+
+  by-lines-begins : pixelsByLines t 0 ≡ 0
+  unfolding pixelsByLines
+  by-lines-begins =
+      none-ahead (linesBefore t) (high t) (wide t) (0 / lineClocks t) (cols (0 % lineClocks t))
+      (omega (arith, zero-div (lineClocks t)))
+
+  -- so the count by lines is the count of the clocks that show a pixel
+  pub counted-by-lines : (p : ℕ) → pixelsBefore t p ≡ pixelsByLines t p
+  unfolding pixelsBefore countIn
+  counted-by-lines zero = sym by-lines-begins
+  counted-by-lines (suc p) =
+      ap (λ (n : ℕ). n + countIn (spotAt t p)) (counted-by-lines p)
+      ∙ one-more (shows t p)
+      ∙ ap (pixelsByLines t) (add-one p)
+    where
+      one-more : Shows t p → pixelsByLines t p + countIn (spotAt t p) ≡ pixelsByLines t (p + 1)
+      one-more (pixel r c a e) =
+          ap (λ (x : Spot). pixelsByLines t p + countIn x) e
+          ∙ omega (arith, by-lines-before p r c a, by-lines-after p r c a)
+      one-more (blank none e) =
+          ap (λ (x : Spot). pixelsByLines t p + countIn x) e ∙ omega (arith, by-lines-blank p none)
+
+  -- ---- the three laws
+
+  pub before-pixel : (p r c : ℕ) → At t p r c → pixelsBefore t p ≡ r * wide t + c
+  before-pixel p r c a = counted-by-lines p ∙ by-lines-before p r c a
+
+  pub after-pixel : (p r c : ℕ) → At t p r c → pixelsBefore t (p + 1) ≡ r * wide t + c + 1
+  after-pixel p r c a = counted-by-lines (p + 1) ∙ by-lines-after p r c a
+
+  pub after-blank : (p : ℕ) → ((r c : ℕ) → At t p r c → ⊥) → pixelsBefore t (p + 1) ≡ pixelsBefore t p
+  after-blank p none = counted-by-lines (p + 1) ∙ by-lines-blank p none ∙ sym (counted-by-lines p)
 
   -- ---- what follows
 
@@ -166,10 +202,10 @@ module _ (t : Timing) where
 
   -- never more than the panel has
   pub at-most-all : (p : ℕ) → pixelsBefore t p ≤ high t * wide t
-  unfolding pixelsBefore columnsBefore
-  at-most-all p = go (lies (linesBefore t) (high t) (p / lineClocks t))
+  unfolding pixelsByLines columnsBefore
+  at-most-all p = rw (counted-by-lines p) (go (lies (linesBefore t) (high t) (p / lineClocks t)))
     where
-      go : Lies (linesBefore t) (high t) (p / lineClocks t) → pixelsBefore t p ≤ high t * wide t
+      go : Lies (linesBefore t) (high t) (p / lineClocks t) → pixelsByLines t p ≤ high t * wide t
       go (ahead h) = omega (arith, none-ahead (linesBefore t) (high t) (wide t) (p / lineClocks t) (cols (p % lineClocks t)) h)
       go (past h) = omega (arith, all-past (linesBefore t) (high t) (wide t) (p / lineClocks t) (cols (p % lineClocks t)) h)
       go (among r h e) =

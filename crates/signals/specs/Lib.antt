@@ -1,3 +1,4 @@
 pub mod Parts
 pub mod Pixel
 pub mod Clock
+pub mod Core

@@ -1,8 +1,6 @@
 -- The pixel that a clock shows (document 01, "Clocks and lines"), and how many pixels of a frame come before a clock.
 -- Assumes nothing.
-use mathlib.Core.Bool.{cond}
-use Prim.Native.Nat.{ℕ, _+_, _-_, _*_, _/_, _%_, min}
-use lib.Dec.{ltb}
+use Prim.Native.Nat.{ℕ, zero, suc, _+_, _*_}
 use Rattle.panel.specs.Timing.{Timing, lineClocks}
 use Rattle.signals.specs.Parts.{linesBefore, clocksBefore, linePart, clockPart}
 use Rattle.signals.specs.declared.parts.Part.{Part}
@@ -33,15 +31,11 @@ pixelClock t r c = (linesBefore t + r) * lineClocks t + (clocksBefore t + c)
 
 -- ---- the pixels before a clock, which are those of a run's stretch
 
-unfoldable pub columnsBefore : ℕ → ℕ → ℕ → ℕ
-columnsBefore before wide clock = min (clock - before) wide
+unfoldable pub countIn : Spot → ℕ
+countIn (Pixel r c) = 1
+countIn Blank = 0
 
--- by the line with a number: none above the active lines, all below them, and in one of them those of the rows above and `columns`
-unfoldable pub pixelsInLines : ℕ → ℕ → ℕ → ℕ → ℕ → ℕ
-pixelsInLines before high wide line columns =
-    cond (ltb line before) 0 (cond (ltb (line - before) high) ((line - before) * wide + columns) (high * wide))
-
+-- how many clocks before a position show one
 unfoldable pub pixelsBefore : Timing → ℕ → ℕ
-pixelsBefore t p =
-    pixelsInLines (linesBefore t) (t .lineval + 1) (t .hozval + 1) (p / lineClocks t)
-    (columnsBefore (clocksBefore t) (t .hozval + 1) (p % lineClocks t))
+pixelsBefore t zero = 0
+pixelsBefore t (suc p) = pixelsBefore t p + countIn (spotAt t p)

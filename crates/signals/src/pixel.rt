@@ -2,7 +2,8 @@
 ghost use mathlib.Core.Path.{_≡_};
 ghost use Prim.Native.Nat.{_≤_};
 ghost use Rattle.panel.specs.Timing.{timing};
-ghost use Rattle.signals.specs.Pixel.{spotOf, columnsBefore, pixelsInLines, pixelsBefore};
+ghost use Rattle.signals.specs.Core.{columnsBefore, pixelsInLines};
+ghost use Rattle.signals.specs.Pixel.{spotOf, pixelsBefore};
 use super::parts::Part;
 use super::parts::Parts;
 use super::parts::clocks_before;

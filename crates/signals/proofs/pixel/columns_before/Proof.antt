@@ -1,6 +1,6 @@
 -- `signals::pixel::columns_before` meets its contract. Assumes nothing.
 use native.Mathlib.Omega.{arith}
-use Rattle.signals.specs.Pixel.{columnsBefore}
+use Rattle.signals.specs.Core.{columnsBefore}
 use Rattle.signals.proofs.pixel.columns_before.Statement.{statement}
 use Rattle.signals.proofs.pixel.columns_before.Tie as tie
 

@@ -1,7 +1,10 @@
 -- `signals::pixel::pixels_before` meets its contract. Assumes nothing.
+use mathlib.Core.Path.{sym, _∙_}
 use native.Mathlib.Omega.{arith}
 use Rattle.panel.proofs.Bounds.{line-clocks-ge}
-use Rattle.signals.specs.Pixel.{columnsBefore, pixelsBefore}
+use Rattle.panel.specs.Timing.{timing}
+use Rattle.signals.specs.Core.{columnsBefore, pixelsByLines}
+use Rattle.signals.proofs.ReadingOrder.{counted-by-lines}
 use Rattle.signals.proofs.pixel.pixels_before.Statement.{statement}
 use Rattle.signals.proofs.pixel.pixels_before.Tie as tie
 
@@ -16,8 +19,9 @@ unfolding columnsBefore
 pixels-in-lines-requires c κs = (omega arith, omega arith, omega arith)
 
 returns : tie.Need-returns
-unfolding pixelsBefore
+unfolding pixelsByLines
 returns c =
+    let a = c .before .before .before .before .before .before .before .before .args in
     rw (
       c .before .before .before .before .before .before .before .line-clocks .ensures,
       c .before .before .before .columns-before .ensures,
@@ -27,6 +31,7 @@ returns c =
       c .before .before .lines-before .ensures,
       c .before .height .ensures,
     ) at (c .pixels-in-lines .ensures)
+    ∙ sym (counted-by-lines (timing (a .w)) (a .position))
 
 pub pixels-before-spec : {M : Type 1} → statement M
 pixels-before-spec =
