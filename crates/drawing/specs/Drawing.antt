@@ -61,9 +61,13 @@ abbrev pub drawn : Drawn → Answer ℕ
 drawn (Colour v) = accepted v
 drawn (Refused n) = refused n
 
+-- 1 to 8, 9, 10, 11
+abbrev pub pixelCases : Words → ℕ → List ℕ → List ℕ → ℕ → ℕ → List Case
+pixelCases w start memory palette r c =
+    drawingCases w start (length memory) (length palette) false ++ (11 when (rowOutside w r || columnOutside w c) ∷ [])
+
 unfoldable pub judgePixel : Words → ℕ → List ℕ → List ℕ → ℕ → ℕ → ℕ
-judgePixel w start memory palette r c =
-    lowest (drawingCases w start (length memory) (length palette) false ++ (11 when (rowOutside w r || columnOutside w c) ∷ []))
+judgePixel w start memory palette r c = lowest (pixelCases w start memory palette r c)
 
 unfoldable pub drawPixel : Words → ℕ → List ℕ → List ℕ → ℕ → ℕ → Answer ℕ
 drawPixel w start memory palette r c = judged (judgePixel w start memory palette r c) (colour w start memory palette r c)

@@ -30,6 +30,28 @@ unfolding judged
 judged-refused zero a m e = let z : _≡_ {A = ℕ} 0 1 = cc in absurd (omega arith)
 judged-refused (suc n) a m e = (cc, omega arith)
 
+-- something of an accepted answer, else what there was
+unfoldable pub orElse : {A B : Type 0} → (A → B) → B → Answer A → B
+orElse f b (accepted a) = f a
+orElse f b (refused n) = b
+
+-- the number of a refusal, 0 where the call is accepted
+unfoldable pub numberOf : {A : Type 0} → Answer A → ℕ
+numberOf (accepted a) = 0
+numberOf (refused n) = n
+
+-- an answer with a number is that refusal
+pub is-refused : {A : Type 0} (a : Answer A) → (numberOf a ≡ 0 → ⊥) → a ≡ refused (numberOf a)
+unfolding numberOf
+is-refused (accepted x) ne = absurd (ne refl)
+is-refused (refused m) ne = refl
+
+-- and leaves what there was
+pub else-kept : {A B : Type 0} (f : A → B) (b : B) (a : Answer A) → (numberOf a ≡ 0 → ⊥) → orElse f b a ≡ b
+unfolding orElse numberOf
+else-kept f b (accepted x) ne = absurd (ne refl)
+else-kept f b (refused m) ne = refl
+
 -- a call that goes on with another's answer; a refusal is passed on
 unfoldable pub andThen : {A B : Type 0} → Answer A → (A → Answer B) → Answer B
 andThen (accepted a) f = f a

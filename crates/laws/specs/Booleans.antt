@@ -19,6 +19,10 @@ pub and-both : (a b : Bool) → T a → T b → T (a && b)
 and-both true b s t = t
 and-both false b s t = s
 
+pub both-true : (a b : Bool) → a && b ≡ true → (a ≡ true) × (b ≡ true)
+both-true true b e = (refl, e)
+both-true false b e = absurd (true≢false (sym e))
+
 pub or-false-left : (a b : Bool) → a || b ≡ false → a ≡ false
 or-false-left true b e = e
 or-false-left false b e = refl

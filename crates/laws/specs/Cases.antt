@@ -231,6 +231,11 @@ pub pass-joined : (cs ds : List Case) → lowest cs ≡ 0 → lowest ds ≡ 0 �
 unfolding lower
 pass-joined cs ds e e′ = lowest-joined cs ds ∙ rw (e, e′) refl
 
+-- one condition, which does not hold
+pub none-of-one : (n : ℕ) (b : Bool) → b ≡ false → lowest (n when b ∷ []) ≡ 0
+unfolding lowest
+none-of-one n b f = rw f refl
+
 -- the numbers are n at most
 abbrev pub upTo : ℕ → List Case → Bool
 upTo n [] = true

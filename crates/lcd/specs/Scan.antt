@@ -1,6 +1,5 @@
 -- The calls of the C interface for one pixel and for the scan (document 01, "Clocks and lines" and "Numbers of refusal"). A state is
 -- one lent slice of 18 entries; where it has fewer, no state can be read, and 10 stands before all. Assumes nothing.
-use mathlib.Core.Bool.{false, _||_}
 use mathlib.Core.List.{List, [], _∷_, _++_}
 use Prim.Native.Nat.{ℕ}
 use lib.ListN.{length, getD, set}
@@ -8,7 +7,7 @@ use Rattle.laws.specs.Answers.{Answer, accepted, refused, judged, Outcome, leav
 use Rattle.laws.specs.Cases.{Case, _when_, lowest}
 use Rattle.laws.specs.Storing.{stores}
 use Rattle.drawing.specs.Colour.{colour}
-use Rattle.drawing.specs.Drawing.{tooShort, rowOutside, columnOutside, drawingCases}
+use Rattle.drawing.specs.Drawing.{tooShort, pixelCases}
 use Rattle.registers.specs.Loading.{inOrder, load}
 use Rattle.registers.specs.declared.Words.{Words}
 use Rattle.signals.specs.declared.clock.Clock.{Clock}
@@ -30,11 +29,6 @@ judgeEntries entries = lowest (entryCases entries)
 -- the colour goes to the first entry, the others stay
 unfoldable pub putColour : ℕ → List ℕ → Outcome
 putColour v out = outcome (judgeEntries (length out)) out (set out 0 v)
-
--- what one pixel is judged by: 1 to 8, 9, 10, 11
-abbrev pub pixelCases : Words → ℕ → List ℕ → List ℕ → ℕ → ℕ → List Case
-pixelCases w window memory palette r c =
-    drawingCases w window (length memory) (length palette) false ++ (11 when (rowOutside w r || columnOutside w c) ∷ [])
 
 -- "The lowest number that applies to the call is given": of the pixel's cases and of the entry's
 unfoldable pub judgePixelIn : Words → ℕ → List ℕ → List ℕ → ℕ → ℕ → List ℕ → ℕ

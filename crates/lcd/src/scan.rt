@@ -10,6 +10,7 @@ ghost use Rattle.scanout.specs.Core.{lending};
 ghost use Rattle.lcd.specs.Scan.{stateOf, putState, putStarted, putStep, putRun, putColour, judgeEntries, drawPixelIn, drawPixel, startScan, stepOn, stepScan, changeOn, changeScan, ranLeaves, runOn, runScan};
 use drawing::pixel::Drawn;
 use drawing::pixel::draw_pixel;
+use panel::refusals::lower;
 use registers::Loaded;
 use registers::Words;
 use registers::load;
@@ -34,13 +35,7 @@ fn beside_entries(n: u32, entries: usize) -> u32
     if 1 <= entries {
         return n;
     }
-    if n == 0 {
-        return 10;
-    }
-    if n < 10 {
-        return n;
-    }
-    10
+    lower(n, 10)
 }
 
 fn put_colour(colour: u32, out: &mut [u32]) -> u32

@@ -1,6 +1,7 @@
 // Refusals 1 to 7: what the words alone decide. Each condition stands in a function of its own.
 ghost use mathlib.Core.Path.{_≡_};
 ghost use Rattle.laws.specs.Answers.{judged};
+ghost use Rattle.laws.specs.Cases.{lower};
 ghost use Rattle.registers.specs.Loading.{loaded};
 ghost use Rattle.panel.specs.Refusals.{notTft, noSuchMode, swapsIllegal, rowSizeWrong, endDiffers, pastBank};
 ghost use Rattle.panel.specs.Refusals.{judge, accept};
@@ -86,6 +87,22 @@ pub fn judge(w: Words) -> u32
         return 7;
     }
     0
+}
+
+// The lower of two refusal numbers, where 0 is no refusal.
+pub fn lower(a: u32, b: u32) -> u32
+    ensures { λ r. ⌜ r ≡ lower a b ⌝ }
+{
+    if a == 0 {
+        return b;
+    }
+    if b == 0 {
+        return a;
+    }
+    if a < b {
+        return a;
+    }
+    b
 }
 
 fn accept_words(w: Words) -> Loaded

@@ -11,7 +11,7 @@ use lib.Dec.{eqb, leb}
 use lib.ListN.{length}
 use Rattle.laws.specs.Answers.{judged, accepted}
 use Rattle.laws.specs.Booleans.{or-false, or-false-left, or-false-right}
-use Rattle.laws.specs.Cases.{Case, _when_, NoneHolds, lowest, lower, lowest-zero-none-holds, joined-pass, pass-joined}
+use Rattle.laws.specs.Cases.{Case, _when_, NoneHolds, lowest, lower, lowest-zero-none-holds, joined-pass, pass-joined, none-of-one}
 use Rattle.drawing.specs.Colour.{colour}
 use Rattle.drawing.specs.Drawing.{videoOff, paletteWrong, rowOutside, columnOutside, drawingCases, judgePixel, drawPixel}
 use Rattle.memory.specs.Memory.{memoryCases}
@@ -22,11 +22,6 @@ use Rattle.scanout.specs.Refusals.{bankDiffers, pastFrame, viewCases, st
 use Rattle.scanout.specs.State.{withView, frameOf, shownWords, advance}
 use Rattle.scanout.specs.declared.state.State.{State}
 use Rattle.scanout.proofs.Views.{Alike, alike-with, shown-first, shown-later, shown-alike, shown-frame, some-frame}
-
--- one condition, which does not hold
-pub none-of-one : (n : ℕ) (b : Bool) → b ≡ false → lowest (n when b ∷ []) ≡ 0
-unfolding lowest
-none-of-one n b f = rw f refl
 
 module _ (s : State) (lent entries : ℕ) (short : Bool) where
   -- the conditions beside those of the views

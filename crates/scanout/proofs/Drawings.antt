@@ -9,7 +9,7 @@ use native.Mathlib.Omega.{arith}
 use borrow.Author.Tests.{le-ltb}
 use lib.ListN.{length}
 use Rattle.laws.specs.Answers.{Answer, accepted, outcome, leaves}
-use Rattle.laws.specs.Cases.{_when_, pass-joined}
+use Rattle.laws.specs.Cases.{_when_, pass-joined, none-of-one}
 use Rattle.laws.specs.Storing.{stores}
 use Rattle.drawing.specs.Drawing.{tooShort, pixels, stretchOutside, drawingCases, judgeStretch, drawStretch}
 use Rattle.panel.specs.Geometry.{width, height}
@@ -23,7 +23,7 @@ use Rattle.scanout.specs.Calls.{Lent, spotColour, nextColour, drawn}
 use Rattle.scanout.specs.Core.{spotDrawn}
 use Rattle.scanout.specs.State.{frameOf, shownWords}
 use Rattle.scanout.specs.declared.state.State.{State}
-use Rattle.scanout.proofs.Acceptance.{Passed, none-of-one, short-passes, drawing-passes, pixel-drawn}
+use Rattle.scanout.proofs.Acceptance.{Passed, short-passes, drawing-passes, pixel-drawn}
 use Rattle.scanout.proofs.Stretch.{first, many, colours, drawn-is-stretch}
 use Rattle.scanout.proofs.Views.{shown-alike, shown-timing}
 

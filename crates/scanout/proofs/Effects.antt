@@ -6,12 +6,12 @@ use mathlib.Core.Path.{_≡_, refl, sym, ap, _∙_}
 use Prim.Native.Nat.{ℕ, zero, suc, _+_, _<_, _≤_}
 use native.Mathlib.Omega.{arith}
 use lib.ListN.{length}
-use Rattle.laws.specs.Answers.{Answer, accepted, refused, outcome, judged-accepted, judged-refused}
+use Rattle.laws.specs.Answers.{Answer, accepted, refused, outcome, judged-accepted, judged-refused, orElse, is-refused, else-kept}
 use Rattle.drawing.specs.Drawing.{tooShort, pixels}
 use Rattle.signals.specs.Clock.{clockAt}
 use Rattle.scanout.specs.Answers.{Shown, Taken}
 use Rattle.scanout.specs.Calls.{Lent, nextColour, judgeStep, step, countOf, drawn, judgeRun, run, withPending, change}
-use Rattle.scanout.specs.Lists.{Call, aStep, aRun, aChange, orElse, numberOf, refusal, next, clocks, pendingAfter, pictureAfter}
+use Rattle.scanout.specs.Lists.{Call, aStep, aRun, aChange, refusal, next, clocks, pendingAfter, pictureAfter}
 use Rattle.scanout.specs.Refusals.{judgeChange}
 use Rattle.scanout.specs.State.{frameOf, shownWords, advance, after}
 use Rattle.scanout.specs.declared.state.State.{State}
@@ -118,18 +118,6 @@ pub record Unchanged (s : State) (c : Call) : Type 0 where
   pub none : clocks s c ≡ 0
   pub view : (v : Viewport) → pendingAfter s v c ≡ v
   pub picture : (p : List ℕ) → pictureAfter s p c ≡ p
-
--- an answer with a number is that refusal
-is-refused : {A : Type 0} (a : Answer A) → (numberOf a ≡ 0 → ⊥) → a ≡ refused (numberOf a)
-unfolding numberOf
-is-refused (accepted x) ne = absurd (ne refl)
-is-refused (refused m) ne = refl
-
--- and leaves what there was
-else-kept : {A B : Type 0} (f : A → B) (b : B) (a : Answer A) → (numberOf a ≡ 0 → ⊥) → orElse f b a ≡ b
-unfolding orElse numberOf
-else-kept f b (accepted x) ne = absurd (ne refl)
-else-kept f b (refused m) ne = refl
 
 module _ (s : State) where
   pub refused-answer : (l : Lent) (n : ℕ) (picture : List ℕ) → (refusal s (aRun l n picture) ≡ 0 → ⊥)

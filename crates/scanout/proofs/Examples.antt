@@ -4,7 +4,7 @@ use mathlib.Core.List.{List, [], _∷_, _++_}
 use mathlib.Core.Path.{_≡_, refl}
 use Prim.Native.Nat.{ℕ, zero, suc}
 use lib.ListN.{replicate}
-use Rattle.laws.specs.Answers.{Answer, accepted, refused, judged, outcome}
+use Rattle.laws.specs.Answers.{Answer, accepted, refused, judged, outcome, orElse, numberOf}
 use Rattle.laws.specs.Booleans.{someBelow}
 use Rattle.laws.specs.Cases.{lowest, lower}
 use Rattle.drawing.specs.Colour.{storedPixel, rowColour, colour}
@@ -25,7 +25,7 @@ use Rattle.signals.specs.Pixel.{inRow, spotOf, spotAt, pixelClock}
 use Rattle.signals.specs.declared.pixel.Spot.the-variants.{Pixel, Blank}
 use Rattle.scanout.specs.Answers.{Shown}
 use Rattle.scanout.specs.Calls.{Lent, begun, spotColour, nextColour, judgeStep, step, countOf, store, storeNext, drawn, judgeRun, run, change}
-use Rattle.scanout.specs.Lists.{aStep, aRun, aChange, orElse, numberOf, refusal, next, clocks, pendingAfter, pictureAfter, Calls, nothing, _then_, final, taken, lastView, pictureLeft, callsBefore, frameView}
+use Rattle.scanout.specs.Lists.{aStep, aRun, aChange, refusal, next, clocks, pendingAfter, pictureAfter, Calls, nothing, _then_, final, taken, lastView, pictureLeft, callsBefore, frameView}
 use Rattle.scanout.specs.Refusals.{bankDiffers, pastFrame, judgeScan, judgeChange}
 use Rattle.scanout.specs.State.{shownWords, advance, after}
 use Rattle.scanout.specs.declared.state.State.{State}

@@ -8,7 +8,7 @@ use Prim.Native.Nat.{ℕ, zero, suc, _+_, _<_, _≤_}
 use native.Mathlib.Decide.{decLt}
 use native.Mathlib.Omega.{arith}
 use lib.ListN.{length}
-use Rattle.laws.specs.Answers.{Answer, accepted, refused, judged, andThen, judged-accepted}
+use Rattle.laws.specs.Answers.{Answer, accepted, refused, judged, andThen, judged-accepted, orElse, numberOf}
 use Rattle.drawing.specs.Drawing.{tooShort, pixels}
 use Rattle.registers.specs.Loading.{load}
 use Rattle.registers.specs.declared.Words.{Words}
@@ -16,7 +16,7 @@ use Rattle.signals.specs.Clock.{clockAt}
 use Rattle.scanout.specs.Answers.{Shown, Taken}
 use Rattle.scanout.specs.Calls.{Lent, begun, start, nextColour, judgeStep, step, run}
 use Rattle.scanout.specs.FrameByFrame.{pixelTime, frameColour, Takes, TakenBy, by-step, by-run, Demand3, Demand3FromStart, singleSteps, RunIsSteps}
-use Rattle.scanout.specs.Lists.{Call, aStep, aRun, aChange, orElse, numberOf, refusal, next, clocks, Calls, nothing, _then_, Begins, final, taken, lastView, pictureLeft}
+use Rattle.scanout.specs.Lists.{Call, aStep, aRun, aChange, refusal, next, clocks, Calls, nothing, _then_, Begins, final, taken, lastView, pictureLeft}
 use Rattle.scanout.specs.Refusals.{judgeStart}
 use Rattle.scanout.specs.State.{shownWords, advance, after}
 use Rattle.scanout.specs.declared.state.State.{State}

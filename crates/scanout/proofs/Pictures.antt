@@ -6,12 +6,12 @@ use mathlib.Core.Path.{_≡_, refl, sym, ap, _∙_}
 use Prim.Native.Nat.{ℕ, _<_, _≤_}
 use native.Mathlib.Omega.{arith}
 use lib.ListN.{length, getD}
-use Rattle.laws.specs.Answers.{Answer, accepted, refused}
+use Rattle.laws.specs.Answers.{Answer, accepted, refused, orElse}
 use Rattle.drawing.specs.Drawing.{drawPixel}
 use Rattle.scanout.specs.Answers.{Taken}
 use Rattle.scanout.specs.Calls.{Lent, run}
 use Rattle.scanout.specs.FrameByFrame.{PixelAt, entryOf, pixelColour, RunIn, leftBy, RunTakes, OnePicture}
-use Rattle.scanout.specs.Lists.{Call, aStep, aRun, aChange, orElse, Calls, nothing, _then_, Begins, final, taken, pictureAfter, pictureLeft}
+use Rattle.scanout.specs.Lists.{Call, aStep, aRun, aChange, Calls, nothing, _then_, Begins, final, taken, pictureAfter, pictureLeft}
 use Rattle.scanout.specs.State.{withView}
 use Rattle.scanout.specs.declared.state.State.{State}
 use Rattle.scanout.specs.declared.state.Viewport.{Viewport}

@@ -6,7 +6,7 @@ use native.Mathlib.Nat.{mul-comm}
 use native.Mathlib.Omega.{arith}
 use borrow.Author.Tests.{ltb-false}
 use lib.ListN.{length, getD}
-use Rattle.laws.specs.Answers.{accepted}
+use Rattle.laws.specs.Answers.{accepted, orElse}
 use Rattle.laws.specs.Storing.{stores, length-stores, entry-stored, entry-outside}
 use Rattle.drawing.specs.Drawing.{tooShort, pixels}
 use Rattle.panel.specs.Geometry.{width, height}
@@ -16,7 +16,7 @@ use Rattle.signals.proofs.ReadingOrder.{before-pixel, after-pixel, further, at-
 use Rattle.signals.specs.Pixel.{pixelsBefore}
 use Rattle.scanout.specs.Calls.{countOf}
 use Rattle.scanout.specs.FrameByFrame.{PixelAt, entryOf, frameColour, pixelColour, RunIn, leftBy, RunTakes}
-use Rattle.scanout.specs.Lists.{aRun, orElse, Calls, final, clocks, taken}
+use Rattle.scanout.specs.Lists.{aRun, Calls, final, clocks, taken}
 use Rattle.scanout.specs.State.{frameOf}
 use Rattle.scanout.specs.declared.state.State.{State}
 use Rattle.scanout.proofs.Acceptance.{short-passes}

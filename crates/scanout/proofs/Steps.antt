@@ -6,7 +6,7 @@ use native.Mathlib.Nat.{div-mul-le-self}
 use native.Mathlib.Omega.{arith}
 use lib.Dec.{ltb}
 use lib.ListN.{length}
-use Rattle.laws.specs.Answers.{accepted}
+use Rattle.laws.specs.Answers.{accepted, orElse}
 use Rattle.drawing.proofs.ColourLines.{colour-lines}
 use Rattle.drawing.specs.Colour.{colour}
 use Rattle.drawing.specs.Drawing.{drawPixel}
@@ -23,7 +23,7 @@ use Rattle.signals.specs.declared.pixel.Spot.{Spot}
 use Rattle.signals.specs.declared.pixel.Spot.the-variants.{Pixel, Blank}
 use Rattle.scanout.specs.Calls.{Lent, spotColour, nextColour}
 use Rattle.scanout.specs.FrameByFrame.{PixelAt, StepIn, frameColour, pixelColour}
-use Rattle.scanout.specs.Lists.{Call, aStep, orElse, Calls, _then_, Begins, final, clocks, taken, frameView}
+use Rattle.scanout.specs.Lists.{Call, aStep, Calls, _then_, Begins, final, clocks, taken, frameView}
 use Rattle.scanout.specs.State.{withView, viewOf, frameOf, shownWords}
 use Rattle.scanout.specs.declared.state.State.{State}
 use Rattle.scanout.proofs.Acceptance.{Passed, pixel-drawn}

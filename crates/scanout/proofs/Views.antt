@@ -20,9 +20,6 @@ use Rattle.scanout.specs.declared.state.Viewport.{Viewport}
 abbrev pub Alike : Words → Words → Type 0
 Alike w w′ = w ≡ withView w′ (viewOf w)
 
-pub alike-view : (w : Words) (v : Viewport) → Alike (withView w v) w
-alike-view w v = refl
-
 pub alike-self : (w : Words) → Alike w w
 alike-self w = refl
 
@@ -35,9 +32,6 @@ alike-trans w w′ w″ a b = a ∙ alike-with w′ w″ b (viewOf w)
 
 pub alike-same : (w w′ w″ : Words) → w ≡ w′ → Alike w′ w″ → Alike w w″
 alike-same w w′ w″ e a = e ∙ a ∙ ap (λ (x : Words). withView w″ (viewOf x)) (sym e)
-
-pub alike-timing : (w w′ : Words) → Alike w w′ → timing w ≡ timing w′
-alike-timing w w′ a = ap timing a
 
 -- ---- the words that the next clock is shown with
 
@@ -59,7 +53,7 @@ shown-alike s = go (eqb (s .position) 0)
     go false = refl
 
 pub shown-timing : (s : State) → timing (shownWords s) ≡ timing (s .words)
-shown-timing s = alike-timing (shownWords s) (s .words) (shown-alike s)
+shown-timing s = ap timing (shown-alike s)
 
 pub shown-frame : (s : State) → frameClocks (timing (shownWords s)) ≡ frameOf s
 shown-frame s = ap frameClocks (shown-timing s)

@@ -6,7 +6,7 @@ use mathlib.Core.Logic.{_⊎_}
 use mathlib.Core.Path.{_≡_}
 use Prim.Native.Nat.{ℕ, _+_, _*_}
 use lib.Dec.{ltb}
-use Rattle.laws.specs.Answers.{Answer, accepted, refused}
+use Rattle.laws.specs.Answers.{orElse, numberOf}
 use Rattle.scanout.specs.Calls.{Lent, step, run, change}
 use Rattle.scanout.specs.State.{frameOf}
 use Rattle.scanout.specs.declared.state.State.{State}
@@ -26,16 +26,7 @@ lentTo (aStep l) = l
 lentTo (aRun l n picture) = l
 lentTo (aChange memory v) = record { memory = memory; palette = [] }
 
--- something of an accepted answer, else what there was
-unfoldable pub orElse : {A B : Type 0} → (A → B) → B → Answer A → B
-orElse f b (accepted a) = f a
-orElse f b (refused n) = b
-
 -- the number by which a call is refused, 0 where it is accepted
-unfoldable pub numberOf : {A : Type 0} → Answer A → ℕ
-numberOf (accepted a) = 0
-numberOf (refused n) = n
-
 unfoldable pub refusal : State → Call → ℕ
 refusal s (aStep l) = numberOf (step s l)
 refusal s (aRun l n picture) = numberOf (run s l n picture .answer)

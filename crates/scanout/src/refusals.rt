@@ -1,29 +1,14 @@
 // What start, step, run and viewport change are judged by: the lowest number over all the viewports that a call covers.
 ghost use mathlib.Core.Path.{_≡_};
-ghost use Rattle.laws.specs.Cases.{lower, lowest};
+ghost use Rattle.laws.specs.Cases.{lowest};
 ghost use Rattle.scanout.specs.Refusals.{bankDiffers, pastFrame, viewCases, stateCases, judgeStart, judgeScan, judgeChange};
 use super::state::State;
 use super::state::Viewport;
 use super::state::with_viewport;
 use memory::judge_memory;
+use panel::refusals::lower;
 use panel::timing::frame_clocks;
 use registers::Words;
-
-// The lower of two refusal numbers, where 0 is no refusal.
-fn lower(a: u32, b: u32) -> u32
-    ensures { λ r. ⌜ r ≡ lower a b ⌝ }
-{
-    if a == 0 {
-        return b;
-    }
-    if b == 0 {
-        return a;
-    }
-    if a < b {
-        return a;
-    }
-    b
-}
 
 // 1 to 8 of a viewport in the words of a state.
 fn judge_view(s: State, v: Viewport, lent: usize) -> u32

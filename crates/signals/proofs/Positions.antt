@@ -167,9 +167,6 @@ module _ (t : Timing) where
   at-is-pixel-clock p r c a =
       sym (div-add-mod' p (lineClocks t)) ∙ ap₂ (λ (q k : ℕ). q * lineClocks t + k) (a .line) (a .clock)
 
-  pub pixel-clock-shows : (r c : ℕ) → r < high → c < wide → spotAt t (pixelClock t r c) ≡ Pixel r c
-  pixel-clock-shows r c h k = at-shows (pixelClock t r c) r c (at-pixel-clock r c h k)
-
   -- it lies inside the frame
   pub pixel-clock-in-frame : (r c : ℕ) → r < high → c < wide → pixelClock t r c < frameClocks t
   unfolding pixelClock frameClocks

@@ -30,6 +30,6 @@ linePart t p = partAt (t .vspw + 1) (linesBefore t) (t .lineval + 1) (p / lineCl
 unfoldable pub clockPart : Timing → ℕ → Part
 clockPart t p = partAt (t .hspw + 1) (clocksBefore t) (t .hozval + 1) (p % lineClocks t)
 
--- both
+-- where a position lies in its frame and in its line
 abbrev pub partsAt : Timing → ℕ → Parts
 partsAt t p = record { line = linePart t p; clock = clockPart t p }

@@ -65,8 +65,9 @@ fn pixels_in_lines(before: u32, high: u32, wide: u32, line: u32, columns: u32) -
 pub fn pixels_before(w: Words, position: u32) -> u32
     ensures { λ r. ⌜ r ≡ pixelsBefore (timing w) position ⌝ }
 {
-    let line = position / line_clocks(w);
-    let clock = position % line_clocks(w);
+    let size = line_clocks(w);
+    let line = position / size;
+    let clock = position % size;
     let wide = width(w);
     let columns = columns_before(clocks_before(w), wide, clock);
     pixels_in_lines(lines_before(w), height(w), wide, line, columns)

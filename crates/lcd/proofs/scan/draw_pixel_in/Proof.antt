@@ -8,9 +8,9 @@ use lib.ListN.{length, set}
 use Rattle.laws.specs.Answers.{Answer, Outcome, accepted, refused, judged-accepted, judged-refused, leaves, outcome, leaves-as-it-was}
 use Rattle.laws.specs.Cases.{lower, lowest-joined, joined-pass}
 use Rattle.drawing.specs.Colour.{colour}
-use Rattle.drawing.specs.Drawing.{drawn, judgePixel, drawPixel}
+use Rattle.drawing.specs.Drawing.{drawn, judgePixel, drawPixel, pixelCases}
 use Rattle.registers.specs.declared.Words.{Words}
-use Rattle.lcd.specs.Scan.{pixelCases, entryCases, judgeEntries, putColour, judgePixelIn, drawPixelIn}
+use Rattle.lcd.specs.Scan.{entryCases, judgeEntries, putColour, judgePixelIn, drawPixelIn}
 use Rattle.lcd.proofs.scan.draw_pixel_in.Statement.{statement}
 use Rattle.lcd.proofs.scan.draw_pixel_in.Tie as tie
 

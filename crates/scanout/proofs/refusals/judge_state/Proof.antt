@@ -1,9 +1,10 @@
 -- `scanout::refusals::judge_state` meets its contract. Assumes nothing.
-use mathlib.Core.Bool.{Bool, true, false, _&&_, false≢true}
+use mathlib.Core.Bool.{true, _&&_}
 use mathlib.Core.Path.{_≡_, refl, sym, ap, ap₂, _∙_}
 use Prim.Native.Nat.{ℕ}
 use borrow.Author.Tests.{eqb-true}
 use lib.Dec.{eqb}
+use Rattle.laws.specs.Booleans.{both-true}
 use Rattle.laws.specs.Cases.{lower, lower-same, lowest, lowest-joined}
 use Rattle.memory.specs.Memory.{memoryCases, judgeMemory}
 use Rattle.scanout.specs.Refusals.{viewCases}
@@ -11,16 +12,12 @@ use Rattle.scanout.specs.declared.state.State.{State}
 use Rattle.scanout.proofs.refusals.judge_state.Statement.{statement}
 use Rattle.scanout.proofs.refusals.judge_state.Tie as tie
 
-both : (a b : Bool) → a && b ≡ true → (a ≡ true) × (b ≡ true)
-both true b e = (refl, e)
-both false b e = absurd (false≢true e)
-
 -- where the two views are the same, their numbers are
 same-views : (s : State) (lent : ℕ)
     → eqb (s .words .lcdsaddr1) (s .pending .lcdsaddr1) && eqb (s .words .lcdsaddr2) (s .pending .lcdsaddr2) ≡ true
     → lowest (viewCases s (s .pending) lent) ≡ lowest (memoryCases (s .words) (s .«window_start») lent)
 same-views s lent e =
-    let t = both (eqb (s .words .lcdsaddr1) (s .pending .lcdsaddr1)) (eqb (s .words .lcdsaddr2) (s .pending .lcdsaddr2)) e in
+    let t = both-true (eqb (s .words .lcdsaddr1) (s .pending .lcdsaddr1)) (eqb (s .words .lcdsaddr2) (s .pending .lcdsaddr2)) e in
     rw (
       ← eqb-true (s .words .lcdsaddr1) (s .pending .lcdsaddr1) (t .0),
       ← eqb-true (s .words .lcdsaddr2) (s .pending .lcdsaddr2) (t .1),

@@ -5,7 +5,7 @@ use Prim.Native.Nat.{ℕ}
 use native.Mathlib.Omega.{arith}
 use borrow.Author.Needs.{needs}
 use lib.ListN.{length}
-use Rattle.laws.specs.Answers.{Answer, accepted, refused, gives-refusal, gives-answer}
+use Rattle.laws.specs.Answers.{accepted, orElse, gives-refusal, gives-answer}
 use Rattle.drawing.specs.Drawing.{drawn}
 use Rattle.panel.specs.Timing.{timing}
 use Rattle.registers.specs.declared.Words.{Words}
@@ -52,19 +52,11 @@ colour c =
     (c .before .spot-of .ensures ∙ ap (λ (p : Parts). spotOf (p .line) (p .clock)) (parts-are (c .before .before)))
     ∙ spot-drawn (state c) (lent c) false (lets (c .before .before .before .before))
 
-value : Answer ℕ → ℕ
-value (accepted v) = v
-value (refused n) = 0
-
-flag : Answer ℕ → ℕ
-flag (accepted v) = 1
-flag (refused n) = 0
-
 moved-requires : tie.Need-moved-requires
 moved-requires c κs = omega (arith, lets (c .before .before .before .before .before .before .before .before) .inside)
 
 returns-2 : tie.Need-returns-2
-unfolding step judgeStep advance value clockAt
+unfolding step judgeStep advance clockAt orElse
 returns-2 c =
     let there = c .before .before .before .before .before in
     let accepts = there .before .before .before .before in
@@ -74,14 +66,14 @@ returns-2 c =
     ∙ ap₂ (λ (w : Words) (p : Parts). clockOf w (p .line) (p .clock) (c .before .before .before .v .given .0 .0))
     (there .before .before .before .shown-words .ensures) (parts-are (there .before .before))
     ∙ ap (λ (v : ℕ). clockAt (shownWords (state there)) (state there .position) v)
-    (ap value (sym (ap drawn (c .before .before .before .v .given .1)) ∙ colour there)))
+    (ap (orElse (λ v. v) 0) (sym (ap drawn (c .before .before .before .v .given .1)) ∙ colour there)))
     (c .moved .ensures))
 
 returns-3 : tie.Need-returns-3
-unfolding flag
+unfolding orElse
 returns-3 c =
     let there = c .before .before .before in
-    let z : _≡_ {A = ℕ} 0 1 = ap flag (sym (ap drawn (c .before .n .given .1)) ∙ colour there) in
+    let z : _≡_ {A = ℕ} 0 1 = ap (orElse (λ v. 1) 0) (sym (ap drawn (c .before .n .given .1)) ∙ colour there) in
     absurd (omega (arith, z))
 
 pub step-spec : {M : Type 1} → statement M

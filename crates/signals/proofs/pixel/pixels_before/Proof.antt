@@ -9,10 +9,10 @@ use Rattle.signals.proofs.pixel.pixels_before.Statement.{statement}
 use Rattle.signals.proofs.pixel.pixels_before.Tie as tie
 
 div-line : tie.Need-div-line
-div-line c = omega (arith, line-clocks-ge (c .before .args .w))
+div-line c = omega (arith, line-clocks-ge (c .before .args .w), c .line-clocks .ensures)
 
 rem-clock : tie.Need-rem-clock
-rem-clock c = omega (arith, line-clocks-ge (c .before .before .args .w))
+rem-clock c = omega (arith, line-clocks-ge (c .before .args .w), c .line-clocks .ensures)
 
 pixels-in-lines-requires : tie.Need-pixels-in-lines-requires
 unfolding columnsBefore
@@ -21,11 +21,10 @@ pixels-in-lines-requires c κs = (omega arith, omega arith, omega arith)
 returns : tie.Need-returns
 unfolding pixelsByLines
 returns c =
-    let a = c .before .before .before .before .before .before .before .before .args in
+    let a = c .before .before .before .before .before .before .before .args in
     rw (
-      c .before .before .before .before .before .before .before .line-clocks .ensures,
       c .before .before .before .columns-before .ensures,
-      c .before .before .before .before .before .before .line-clocks2 .ensures,
+      c .before .before .before .before .before .before .line-clocks .ensures,
       c .before .before .before .before .before .width .ensures,
       c .before .before .before .before .clocks-before .ensures,
       c .before .before .lines-before .ensures,
@@ -39,7 +38,6 @@ pixels-before-spec =
     (tie.spec
     (λ c κs. tt)
     div-line
-    (λ c κs. tt)
     rem-clock
     (λ c κs. tt)
     (λ c κs. tt)

@@ -1,9 +1,9 @@
--- `scanout::refusals::lower` meets its contract. Assumes nothing.
+-- `panel::refusals::lower` meets its contract. Assumes nothing.
 use mathlib.Core.Path.{refl, sym, _∙_}
 use native.Mathlib.Omega.{arith}
 use Rattle.laws.specs.Cases.{lower, lower-min, lower-none}
-use Rattle.scanout.proofs.refusals.lower.Statement.{statement}
-use Rattle.scanout.proofs.refusals.lower.Tie as tie
+use Rattle.panel.proofs.refusals.lower.Statement.{statement}
+use Rattle.panel.proofs.refusals.lower.Tie as tie
 
 returns : tie.Need-returns
 unfolding lower
