@@ -7,3 +7,4 @@ pub mod Products
 pub mod Shifts
 pub mod Tables
 pub mod Storing
+pub mod Walks

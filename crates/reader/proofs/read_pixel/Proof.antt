@@ -46,7 +46,7 @@ use Rattle.drawing.proofs.pixel.Drawn as S
 use Rattle.drawing.proofs.pixel.Drawn.Laws as S′
 use Rattle.reader.specs.Reading.{readerOf, lookUp}
 use Rattle.reader.specs.declared.Reader.{Reader}
-use Rattle.reader.proofs.GivenUp.{givenUp, all-go, ends-in, no-requires}
+use Rattle.laws.specs.Walks.{givenUp, all-go, ends-in, no-requires}
 use Rattle.reader.proofs.Reader as T
 use Rattle.reader.proofs.Reader.Laws as T′
 use Rattle.reader.proofs.Reader.new as new

@@ -36,7 +36,7 @@ use Rattle.registers.proofs.Words as N
 use Rattle.registers.proofs.Words.Laws as N′
 use Rattle.reader.specs.Reading.{readerOf}
 use Rattle.reader.specs.declared.Reader.{Reader}
-use Rattle.reader.proofs.GivenUp.{givenUp, all-go, ends-in}
+use Rattle.laws.specs.Walks.{givenUp, all-go, ends-in}
 use Rattle.reader.proofs.Reader as T
 use Rattle.reader.proofs.Reader.Laws as T′
 use Rattle.reader.proofs.Reader.new.Key.{name as #reader·new}

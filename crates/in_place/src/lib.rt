@@ -1,0 +1,56 @@
+// A step that changes a state where it lies (document 01, "The bench"): one thin function over the by-value step of `scanout`. Accepted,
+// the state is the next one and the answer is the clock; refused, the answer is the number and the state is as it was.
+ghost use mathlib.Core.Path.{_≡_};
+ghost use Rattle.in_place.specs.Stepping.{clocked, placed, leaving, stepInPlace};
+ghost use Rattle.scanout.specs.Core.{lending};
+use scanout::state::State;
+use scanout::step::Stepped;
+use scanout::step::step;
+use signals::clock::Clock;
+
+// The levels of the clock that a step took, or a refusal's number.
+pub enum Clocked {
+    Levels(Clock),
+    Refused(u32),
+}
+
+// What a step answers, and the state that it leaves.
+pub struct Placed {
+    pub answer: Clocked,
+    pub state: State,
+}
+
+// The by-value step: the state that it leaves is the next one, after a refusal the old one.
+fn step_and_state(s: State, video: &[u32], palette: &[u16]) -> Placed
+    ensures { λ r. ⌜ placed r ≡ stepInPlace s (lending (now (video .entry)) (now (palette .entry))) ⌝ }
+{
+    match step(s, video, palette) {
+        Stepped::Done(clock, next) => Placed {
+            answer: Clocked::Levels(clock),
+            state: next,
+        },
+        Stepped::Refused(n) => Placed {
+            answer: Clocked::Refused(n),
+            state: s,
+        },
+    }
+}
+
+// Takes one clock of the state where it lies: the levels, or the number of the refusal, as `step` gives them.
+pub fn step_in_place(s: &mut State, video: &[u32], palette: &[u16]) -> Clocked
+    ensures { λ r. ⌜ leaving (clocked r) (now (s .exit)) ≡ stepInPlace (now (s .entry)) (lending (now (video .entry)) (now (palette .entry))) ⌝ }
+{
+    let next = step_and_state(*s, video, palette);
+    *s = next.state;
+    next.answer
+}
+
+// One step in place of a state that lies in a local here. No parameter is a reference to a state, so a caller's proof needs no walk by
+// hand.
+pub fn step_local(s: State, video: &[u32], palette: &[u16]) -> Placed
+    ensures { λ r. ⌜ placed r ≡ stepInPlace s (lending (now (video .entry)) (now (palette .entry))) ⌝ }
+{
+    let mut state = s;
+    let answer = step_in_place(&mut state, video, palette);
+    Placed { answer, state }
+}
