@@ -3,6 +3,9 @@
 use super::entries::entries_agree;
 use super::entries::prefill;
 use super::lent::Lent;
+use super::lookups::Place;
+use super::lookups::drawing_read;
+use super::lookups::lookup_agrees;
 use super::report::agrees;
 use super::text::number_at;
 use super::text::word_at;
@@ -100,18 +103,30 @@ fn rate_agrees(group: &[u8], text: &[u8], case: Case, words: &[u32]) -> bool {
     }
 }
 
-fn pixel_of_words(text: &[u8], case: Case, w: Words, palette: &[u16], video: &[u32]) -> Drawn {
-    let lent = case.lent;
-    let row = word_at(text, case.at, 0);
-    let column = word_at(text, case.at, 1);
-    draw_pixel(w, lent.start, video, palette, row, column)
+fn drawn_agrees(group: &[u8], text: &[u8], case: Case, drawn: Drawn) -> bool {
+    match drawn {
+        Drawn::Colour(colour) => value_agrees(group, text, case, colour as u64),
+        Drawn::Refused(n) => answer_agrees(group, text, case, n),
+    }
 }
 
-fn pixel_of(text: &[u8], case: Case, words: &[u32], palette: &[u16], video: &[u32]) -> Drawn {
-    match load(words) {
-        Loaded::Nine(w) => pixel_of_words(text, case, w, palette, video),
-        Loaded::Refused(n) => Drawn::Refused(n),
-    }
+// One pixel, drawn and through a reader.
+fn pixel_of_words(
+    group: &[u8],
+    text: &[u8],
+    case: Case,
+    w: Words,
+    palette: &[u16],
+    video: &[u32],
+) -> bool {
+    let lent = case.lent;
+    let place = Place {
+        row: word_at(text, case.at, 0),
+        column: word_at(text, case.at, 1),
+    };
+    let drawn = draw_pixel(w, lent.start, video, palette, place.row, place.column);
+    let read = lookup_agrees(group, case, w, palette, video, place, drawn);
+    drawn_agrees(group, text, case, drawn) & read
 }
 
 fn pixel_agrees(
@@ -122,9 +137,9 @@ fn pixel_agrees(
     palette: &[u16],
     video: &[u32],
 ) -> bool {
-    match pixel_of(text, case, words, palette, video) {
-        Drawn::Colour(colour) => value_agrees(group, text, case, colour as u64),
-        Drawn::Refused(n) => answer_agrees(group, text, case, n),
+    match load(words) {
+        Loaded::Nine(w) => pixel_of_words(group, text, case, w, palette, video),
+        Loaded::Refused(n) => answer_agrees(group, text, case, n),
     }
 }
 
@@ -177,6 +192,22 @@ fn draw_lent(
     draw(text, case, words, palette, video, &mut out[..n])
 }
 
+// An accepted drawing, pixel by pixel through a reader; a refused one has nothing to read.
+fn read_agrees(
+    group: &[u8],
+    text: &[u8],
+    case: Case,
+    words: &[u32],
+    palette: &[u16],
+    video: &[u32],
+    out: &[u32],
+) -> bool {
+    match load(words) {
+        Loaded::Nine(w) => drawing_read(group, text, case, w, palette, video, out),
+        Loaded::Refused(_) => true,
+    }
+}
+
 fn drawing_agrees(
     group: &[u8],
     text: &[u8],
@@ -188,8 +219,11 @@ fn drawing_agrees(
     let mut out = [0u32; 4096];
     prefill(&mut out);
     let answer = draw_lent(text, case, words, palette, video, &mut out);
-    let right = answer_agrees(group, text, case, answer);
-    entries_agree(group, text, case, &out) & right
+    let right = answer_agrees(group, text, case, answer) & entries_agree(group, text, case, &out);
+    if answer != 0 {
+        return right;
+    }
+    read_agrees(group, text, case, words, palette, video, &out) & right
 }
 
 // Makes the call, and answers whether it gave what is due.

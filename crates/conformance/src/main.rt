@@ -6,6 +6,7 @@ mod calls;
 mod entries;
 mod lent;
 mod lines;
+mod lookups;
 mod report;
 mod scan;
 mod state;

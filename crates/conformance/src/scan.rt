@@ -9,10 +9,13 @@ use super::entries::same_entries;
 use super::lent::Lent;
 use super::lent::count_up;
 use super::report::agrees;
+use super::state::same_state;
 use super::state::state_agrees;
 use super::text::number_at;
 use super::text::word_at;
 use super::text::words;
+use in_place::Clocked;
+use in_place::step_local;
 use scanout::run::Ran;
 use scanout::run::run;
 use scanout::start::Started;
@@ -73,12 +76,44 @@ fn clock_agrees(group: &[u8], text: &[u8], case: Case, clock: Clock) -> bool {
     right & vsync & hsync & vden & vd
 }
 
+// The step in place: whether it answers what is due and leaves, where the state lies, the state that the plain form leaves.
+fn in_place_agrees(
+    group: &[u8],
+    text: &[u8],
+    case: Case,
+    palette: &[u16],
+    video: &[u32],
+    plain: State,
+) -> bool {
+    let lent = case.lent;
+    let placed = step_local(lent.state, video, palette);
+    let answer = placed.answer;
+    let right = match answer {
+        Clocked::Levels(clock) => clock_agrees(group, text, case, clock),
+        Clocked::Refused(n) => answer_agrees(group, text, case, n),
+    };
+    same_state(group, case.line, placed.state, plain) & right
+}
+
 fn step_agrees(group: &[u8], text: &[u8], case: Case, palette: &[u16], video: &[u32]) -> Judged {
     let lent = case.lent;
     let state = lent.state;
     match step(state, video, palette) {
-        Stepped::Done(clock, s) => next(case, clock_agrees(group, text, case, clock), s),
-        Stepped::Refused(n) => kept(case, answer_agrees(group, text, case, n)),
+        Stepped::Done(clock, s) => {
+            let right = clock_agrees(group, text, case, clock);
+            next(
+                case,
+                in_place_agrees(group, text, case, palette, video, s) & right,
+                s,
+            )
+        }
+        Stepped::Refused(n) => {
+            let right = answer_agrees(group, text, case, n);
+            kept(
+                case,
+                in_place_agrees(group, text, case, palette, video, state) & right,
+            )
+        }
     }
 }
 

@@ -44,11 +44,10 @@ pub(crate) fn no_state() -> State {
     state_at(b"", 0)
 }
 
-// Whether a state has the numbers that are due; an entry that differs is counted in their order, from 0.
-pub(crate) fn state_agrees(group: &[u8], line: u64, text: &[u8], due: usize, s: State) -> bool {
+fn numbers_of(s: State) -> [u32; 13] {
     let w = s.words;
     let v = s.pending;
-    let numbers = [
+    [
         w.lcdcon1,
         w.lcdcon2,
         w.lcdcon3,
@@ -62,8 +61,20 @@ pub(crate) fn state_agrees(group: &[u8], line: u64, text: &[u8], due: usize, s: 
         v.lcdsaddr1,
         v.lcdsaddr2,
         s.position,
-    ];
+    ]
+}
+
+// Whether a state has the numbers that are due; an entry that differs is counted in their order, from 0.
+pub(crate) fn state_agrees(group: &[u8], line: u64, text: &[u8], due: usize, s: State) -> bool {
+    let numbers = numbers_of(s);
     let mut expected = [0u32; 13];
     words(text, due, 0, 0, &mut expected);
+    same_entries(group, line, &numbers, &expected)
+}
+
+// Whether two states are the same, number by number.
+pub(crate) fn same_state(group: &[u8], line: u64, s: State, due: State) -> bool {
+    let numbers = numbers_of(s);
+    let expected = numbers_of(due);
     same_entries(group, line, &numbers, &expected)
 }

@@ -1,0 +1,120 @@
+// Lookups through a reader, held against the plain forms: one pixel against `draw_pixel`, a row and a picture entry by entry against
+// what was drawn.
+use super::calls::Call;
+use super::calls::Case;
+use super::report::agrees;
+use super::text::word_at;
+use drawing::picture::pixels_of;
+use drawing::pixel::Drawn;
+use panel::geometry::width;
+use reader::read_pixel;
+use registers::Words;
+
+// A pixel by its row and column.
+pub(crate) struct Place {
+    pub row: u32,
+    pub column: u32,
+}
+
+// An answer as one number: the colour, or 2^32 times the number of the refusal.
+fn number_of(d: Drawn) -> u64 {
+    match d {
+        Drawn::Colour(v) => v as u64,
+        Drawn::Refused(n) => n as u64 * 0x1_0000_0000,
+    }
+}
+
+// Whether a reader gives for a pixel what the plain form gave.
+pub(crate) fn lookup_agrees(
+    group: &[u8],
+    case: Case,
+    w: Words,
+    palette: &[u16],
+    video: &[u32],
+    place: Place,
+    plain: Drawn,
+) -> bool {
+    let lent = case.lent;
+    let read = read_pixel(w, lent.start, video, palette, place.row, place.column);
+    agrees(
+        group,
+        case.line,
+        b"reader",
+        number_of(read),
+        number_of(plain),
+    )
+}
+
+// The next pixel in reading order.
+fn next_place(place: Place, wide: u32) -> Place {
+    let column = std::num::wrapping_add_u32(place.column, 1);
+    if column < wide {
+        return Place {
+            row: place.row,
+            column,
+        };
+    }
+    Place {
+        row: std::num::wrapping_add_u32(place.row, 1),
+        column: 0,
+    }
+}
+
+// Whether a reader gives each of these entries, which were drawn in reading order from the first column of a row on.
+fn entries_read(
+    group: &[u8],
+    case: Case,
+    w: Words,
+    palette: &[u16],
+    video: &[u32],
+    row: u32,
+    drawn: &[u32],
+) -> bool {
+    let wide = width(w);
+    let mut place = Place { row, column: 0 };
+    let mut right = true;
+    let mut i = 0;
+    while i < drawn.len() {
+        let plain = Drawn::Colour(drawn[i]);
+        right = lookup_agrees(group, case, w, palette, video, place, plain) & right;
+        place = next_place(place, wide);
+        i += 1;
+    }
+    right
+}
+
+// How many entries from the first on an accepted call has drawn; a stretch begins elsewhere.
+fn drawn_from_the_first(call: Call, w: Words) -> usize {
+    match call {
+        Call::Row => width(w) as usize,
+        Call::Picture => pixels_of(w) as usize,
+        _ => 0,
+    }
+}
+
+fn first_row(text: &[u8], case: Case) -> u32 {
+    let call = case.call;
+    match call {
+        Call::Row => word_at(text, case.at, 1),
+        _ => 0,
+    }
+}
+
+// Whether a reader gives what an accepted row or picture drawing left in `out`.
+pub(crate) fn drawing_read(
+    group: &[u8],
+    text: &[u8],
+    case: Case,
+    w: Words,
+    palette: &[u16],
+    video: &[u32],
+    out: &[u32],
+) -> bool {
+    let call = case.call;
+    let n = drawn_from_the_first(call, w);
+    let row = first_row(text, case);
+    if out.len() < n {
+        return false;
+    }
+    entries_read(group, case, w, palette, video, row, &out[..n])
+}
