@@ -1,7 +1,8 @@
 // The conformance program: runs the vectors of data/ through the library's calls (document 01: "Where a pixel lies", "Colours",
 // "Clocks and lines", "Numbers of refusal"). Each argument names a file of data/, a group of cases; data/hand says at its top
-// what such a file looks like. The program prints a line for every answer that differs and, for each group, its name and how
-// many cases it has, all well or how many differ.
+// what such a file looks like. Pixels, rows and pictures are also looked up through a reader and steps also taken in place, against
+// the plain forms. The program prints a line for every answer that differs and, for each group, its name and how many cases it has,
+// all well or how many differ.
 mod calls;
 mod entries;
 mod lent;

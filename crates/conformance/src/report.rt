@@ -40,6 +40,14 @@ pub(crate) fn entry_agrees(group: &[u8], line: u64, entry: u64, got: u32, due: u
     false
 }
 
+// Says of which form a case's differences are, where it is not the plain one.
+pub(crate) fn name_form(group: &[u8], line: u64, form: &[u8]) {
+    print_case(group, line);
+    io::write_all(STDOUT_FILENO, b"differs by the ");
+    io::write_all(STDOUT_FILENO, form);
+    io::write_all(STDOUT_FILENO, b"\n");
+}
+
 // A group's line.
 pub(crate) fn print_group(group: &[u8], cases: u64, differ: u64) {
     io::write_all(STDOUT_FILENO, group);

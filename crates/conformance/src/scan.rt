@@ -9,6 +9,7 @@ use super::entries::same_entries;
 use super::lent::Lent;
 use super::lent::count_up;
 use super::report::agrees;
+use super::report::name_form;
 use super::state::same_state;
 use super::state::state_agrees;
 use super::text::number_at;
@@ -92,7 +93,11 @@ fn in_place_agrees(
         Clocked::Levels(clock) => clock_agrees(group, text, case, clock),
         Clocked::Refused(n) => answer_agrees(group, text, case, n),
     };
-    same_state(group, case.line, placed.state, plain) & right
+    if same_state(group, case.line, placed.state, plain) & right {
+        return true;
+    }
+    name_form(group, case.line, b"step in place");
+    false
 }
 
 fn step_agrees(group: &[u8], text: &[u8], case: Case, palette: &[u16], video: &[u32]) -> Judged {

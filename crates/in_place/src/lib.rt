@@ -21,17 +21,17 @@ pub struct Placed {
 }
 
 // The by-value step: the state that it leaves is the next one, after a refusal the old one.
-fn step_and_state(s: State, video: &[u32], palette: &[u16]) -> Placed
-    ensures { λ r. ⌜ placed r ≡ stepInPlace s (lending (now (video .entry)) (now (palette .entry))) ⌝ }
+fn step_and_state(old: State, video: &[u32], palette: &[u16]) -> Placed
+    ensures { λ r. ⌜ placed r ≡ stepInPlace old (lending (now (video .entry)) (now (palette .entry))) ⌝ }
 {
-    match step(s, video, palette) {
+    match step(old, video, palette) {
         Stepped::Done(clock, next) => Placed {
             answer: Clocked::Levels(clock),
             state: next,
         },
         Stepped::Refused(n) => Placed {
             answer: Clocked::Refused(n),
-            state: s,
+            state: old,
         },
     }
 }

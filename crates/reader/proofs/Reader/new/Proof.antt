@@ -34,7 +34,6 @@ use denote.Triple.Walked.{says, Stays, walkOf, Walks, walked, walk-meets}
 use Rattle.registers.specs.declared.Words.{Words}
 use Rattle.registers.proofs.Words as N
 use Rattle.registers.proofs.Words.Laws as N′
-use Rattle.reader.specs.Reading.{readerOf}
 use Rattle.reader.specs.declared.Reader.{Reader}
 use Rattle.laws.specs.Walks.{givenUp, all-go, ends-in}
 use Rattle.reader.proofs.Reader as T
@@ -52,7 +51,7 @@ module _ {M : Type 1} (𝓤 : URA M) (H : Heap 𝓤) (A : Atoms 𝓤) (W : Given
   α = namedLft 1 0 tt (κ, tt)
 
   abbrev made : Reader
-  made = readerOf w n s
+  made = record { words = w; «window_start» = n; video = s }
 
   -- the arguments, and their machine values
   abbrev x : Words × (ℕ × (RefT (List ℕ) × Unit {0}))
