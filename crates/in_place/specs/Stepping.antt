@@ -1,6 +1,5 @@
 -- What a step in place leaves (document 01, "The bench"): "a step that changes a state where it lies". It is the by-value step's answer,
 -- and the state that the next call of a list gets. Assumes nothing.
-use Prim.Native.Nat.{ℕ}
 use Rattle.laws.specs.Answers.{Answer, accepted, refused, mapped}
 use Rattle.scanout.specs.Calls.{Lent, step}
 use Rattle.scanout.specs.Lists.{aStep, next}
