@@ -1,10 +1,10 @@
 -- The two outcomes of a step in place: refused, the answer is the number and the state is as it was; accepted, the answer is the clock
--- and the state is the next one. Assumes nothing.
+-- and the state is the next one. And what lies there after a list of calls goes on as the claim of demand 3 folds it. Assumes nothing.
 use mathlib.Core.Path.{_≡_, refl, ap, ap₂}
 use Prim.Native.Nat.{ℕ}
 use Rattle.laws.specs.Answers.{accepted, refused, orElse, maps, maps-refusal}
 use Rattle.scanout.specs.Calls.{Lent, step}
-use Rattle.scanout.specs.Lists.{next}
+use Rattle.scanout.specs.Lists.{Calls, _then_, aStep, next, final}
 use Rattle.scanout.specs.declared.state.State.{State}
 use Rattle.signals.specs.declared.clock.Clock.{Clock}
 use Rattle.in_place.specs.Stepping.{leaving, stepInPlace}
@@ -18,3 +18,8 @@ module _ (s : State) (l : Lent) where
       → leaving (accepted k) t ≡ stepInPlace s l
   unfolding stepInPlace next orElse
   accepted-moves k t e = ap₂ leaving (maps _ _ _ _ e refl) (ap (orElse (λ k. k .next) s) e)
+
+-- the state that a list of calls leaves, stepped in place, is the state that the list leaves with that step more
+pub goes-on : (s : State) (cs : Calls) (l : Lent) → stepInPlace (final s cs) l .state ≡ final s (cs then aStep l)
+unfolding stepInPlace final
+goes-on s cs l = refl

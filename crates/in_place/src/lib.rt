@@ -40,9 +40,9 @@ fn step_and_state(old: State, video: &[u32], palette: &[u16]) -> Placed
 pub fn step_in_place(s: &mut State, video: &[u32], palette: &[u16]) -> Clocked
     ensures { λ r. ⌜ leaving (clocked r) (now (s .exit)) ≡ stepInPlace (now (s .entry)) (lending (now (video .entry)) (now (palette .entry))) ⌝ }
 {
-    let next = step_and_state(*s, video, palette);
-    *s = next.state;
-    next.answer
+    let left = step_and_state(*s, video, palette);
+    *s = left.state;
+    left.answer
 }
 
 // One step in place of a state that lies in a local here. No parameter is a reference to a state, so a caller's proof needs no walk by
