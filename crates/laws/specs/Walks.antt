@@ -26,7 +26,7 @@ use denote.Triple.End.{Kepts, Fins}
 use denote.Triple.Entry.{Args, Res, alive, onEntry}
 use denote.Triple.Spec.{Meets, tripleOf}
 use denote.Triple.Statement.{Contract, Triple}
-use denote.Triple.Walked.{Stays, stay-dropped, hasOf, fitsOf, walkOf, ends-at, Silent, AllGo, goes-dropped, walked, walk-meets}
+use denote.Triple.Walked.{Stays, stay-dropped, hasOf, fitsOf, walkOf, ends-at, Silent, AllGo, goes-dropped, says, walked, walk-meets}
 
 -- ---- steps
 
@@ -143,6 +143,24 @@ module _ {M : Type 1} (𝓤 : URA M) (H : Heap 𝓤) (A : Atoms 𝓤) (W : Given
         use0 W (‵ (hasOf (y .0 .0) (T .signature .params) (T .kept) (givenUp (T .signature .params) (T .kept)) (y .0 .3) ws (y .0 .4)))
         (none-had (y .0 .0) (T .signature .params) (T .kept) (y .0 .3) ws (y .0 .4)) $
         move ! (0 ∷ 2 ∷ []) $ join ! $ move ! (1 ∷ 0 ∷ []) $ join ! $ done !
+
+    -- the same where the contract says the fact φ of r, from what a call leaves
+    pub ends-told : (y : walkOf 𝓤 H A T (givenUp (T .signature .params) (T .kept)) c .Ghost) (v : Val)
+        (r : Res (T .signature) (y .0 .0)) (ws : Lasts T (y .0 .0) (y .0 .3)) (φ : Type 0)
+        → c (y .0 .0) (y .0 .3) .ensures (y .1) r (atExit T (y .0 .0) (y .0 .3) ws) ≡ fact 𝓤 φ → φ
+        → ent 𝓤
+        (⋆ 𝓤 H A
+        (‵ (typeAt (T .signature .result) (y .0 .0) .own r (v ∷ [])) ∷ raw (alive 𝓤 H A (T .signature) (y .0 .0) (y .0 .1)) ∷ []))
+        (walkOf 𝓤 H A T (givenUp (T .signature .params) (T .kept)) c .post y v)
+    ends-told y v r ws φ says-φ p =
+        let Owned : SProp 𝓤 =
+        sep 𝓤 (alive 𝓤 H A (T .signature) (y .0 .0) (y .0 .1)) (sem 𝓤 H A (typeAt (T .signature .result) (y .0 .0) .own r (v ∷ []))) in
+        qed W (‵ (typeAt (T .signature .result) (y .0 .0) .own r (v ∷ [])) ∷ raw (alive 𝓤 H A (T .signature) (y .0 .0) (y .0 .1)) ∷ []) ∵
+        suffices ! _
+        (subst
+        (λ (P : SProp 𝓤). ent 𝓤 (sep 𝓤 Owned P) (walkOf 𝓤 H A T (givenUp (T .signature .params) (T .kept)) c .post y v))
+        says-φ (ends-in y v r ws)) $
+        says ! p $ move ! (1 ∷ 0 ∷ []) $ done !
 
     -- a function without `requires` that is walked from its entry on, with the arguments' relations in hand, meets its contract
     module _ (hs : Stays (T .signature .params) (T .kept))

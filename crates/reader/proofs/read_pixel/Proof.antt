@@ -17,7 +17,7 @@ use ghost.Atoms.{Atoms, sem}
 use contract.Lifetimes.{Lfts, Shares}
 use contract.Monad.{Fun}
 use contract.Running.{givenOf, tables, tablesOf}
-use types.Kit.{Given, ‵, raw, _⊛_, ⋆, _$_, _∵_, !, qed, by, move, use1, split, split3, join, group, fsplit, fsplit3, fjoin, fjoin3, suffices, frame, done}
+use types.Kit.{Given, ‵, raw, _⊛_, ⋆, _$_, _∵_, !, qed, by, move, use1, split, split3, join, group, fsplit, fsplit3, fjoin, fjoin3, frame, done}
 use types.Run.{look, init, stop, from, and-then, no-more, land, returns, enter, alloc1, alloc0, params1, pass1, pass0, free0}
 use sound.WpLaws.{FmC, fmOf}
 use denote.RattleType.{RattleType, owns}
@@ -34,7 +34,7 @@ use denote.Triple.Statement.{Contract, Triple}
 use denote.Triple.Entry.{Args, Vals, alive, onEntry}
 use denote.Triple.Spec.{Meets, tripleOf}
 use denote.Triple.Table.{entered, cited}
-use denote.Triple.Walked.{says, Stays, walkOf}
+use denote.Triple.Walked.{Stays, walkOf}
 use Rattle.registers.specs.declared.Words.{Words}
 use Rattle.registers.proofs.Words as N
 use Rattle.registers.proofs.Words.Laws as N′
@@ -44,7 +44,7 @@ use Rattle.drawing.proofs.pixel.Drawn as S
 use Rattle.drawing.proofs.pixel.Drawn.Laws as S′
 use Rattle.reader.specs.Reading.{readerOf, lookUp}
 use Rattle.reader.specs.declared.Reader.{Reader}
-use Rattle.laws.specs.Walks.{no-requires, copied, freed, told, givenUp, all-go, ends-in, meets}
+use Rattle.laws.specs.Walks.{no-requires, copied, freed, told, givenUp, all-go, ends-told, meets}
 use Rattle.reader.proofs.Reader as T
 use Rattle.reader.proofs.Reader.Laws as T′
 use Rattle.reader.proofs.Reader.new as new
@@ -145,14 +145,6 @@ module _ {M : Type 1} (𝓤 : URA M) (H : Heap 𝓤) (A : Atoms 𝓤) (W : Given
   abbrev looked : Reader → Drawn → Type 0
   looked d t = drawn t ≡ lookUp d (now p) r c
 
-  exits : (t : Drawn) (u : Val) → drawn t ≡ drawPixel w n (now s) (now p) r c
-      → ent 𝓤 (⋆ 𝓤 H A (‵ (S.the-row .own t (u ∷ [])) ∷ raw (alive 𝓤 H A read.signature κs qs) ∷ [])) (Post u)
-  exits t u e =
-      qed W (‵ (S.the-row .own t (u ∷ [])) ∷ raw (alive 𝓤 H A read.signature κs qs) ∷ []) ∵
-      suffices ! _
-      (ends-in 𝓤 H A W read.ended (read.clauses 𝓤 H A mem run) ((κs, qs, tt, x, at), tt) u t (tt, (tt, (tt, (tt, (tt, (tt, tt))))))) $
-      says ! e $ move ! (1 ∷ 0 ∷ []) $ done !
-
   module _ (C : Calls 𝓤 H) (Λ : Loops 𝓤 H) (fm : FmC 𝓤 H (W .laws) C) (known-new : Triple 𝓤 (C #reader·new) (New 𝓤 H A mem run))
       (known-pixel : Triple 𝓤 (C #reader·pixel) (Pixel 𝓤 H A mem run)) where
     walk : Is N.the-row w (N′.lowered w ∷ []) → Is u32 n (vint w32 n ∷ []) → Is (ShrSlice (named 0) κ u32) s (v ∷ [])
@@ -188,7 +180,9 @@ module _ {M : Type 1} (𝓤 : URA M) (H : Heap 𝓤) (A : Atoms 𝓤) (W : Given
         returns ! (look ! 16 refl) $
         freed ! 16 refl refl $ freed ! 14 refl refl $ freed ! 12 refl refl $ freed ! 10 refl refl $
         freed ! 8 refl refl $ freed ! 6 refl refl $ freed ! 4 refl refl $ freed ! 2 refl refl $ free0 ! $
-        by ! (exits t u′ (e′ ∙ ap (λ (b : Reader). lookUp b (now p) r c) e))))))))))))))
+        by !
+        (ends-told 𝓤 H A W read.ended (read.clauses 𝓤 H A mem run) ((κs, qs, tt, x, at), tt) u′ t (tt, (tt, (tt, (tt, (tt, (tt, tt))))))
+        (drawn t ≡ drawPixel w n (now s) (now p) r c) refl (e′ ∙ ap (λ (b : Reader). lookUp b (now p) r c) e))))))))))))))
 
 read-meets : {M : Type 1} (𝓤 : URA M) (H : Heap 𝓤) (A : Atoms 𝓤) (W : Given 𝓤 H A)
     (mem : Memory → SProp 𝓤) (run : Routine → Fun 𝓤) (𝓣 : Tables 𝓤 H)

@@ -17,7 +17,7 @@ use ghost.Atoms.{Atoms}
 use contract.Lifetimes.{Lfts, Shares}
 use contract.Monad.{Fun}
 use contract.Running.{givenOf, tables, tablesOf}
-use types.Kit.{Given, ‵, raw, given, ⋆, _$_, _∵_, !, qed, by, move, drop, use1, join, learn, fsplit, fsplit3, fjoin, suffices, frame, done}
+use types.Kit.{Given, ‵, raw, given, _$_, _∵_, !, qed, by, move, drop, use1, join, learn, fsplit, fsplit3, fjoin, frame, done}
 use types.Part.{whole, sub, look-in}
 use types.Run.{look, init, stop, fld, from, load, of-opd, and-then, no-more, assigns, land, returns, enter, alloc1, alloc0, params1, pass1, pass0, free0}
 use sound.WpLaws.{FmC, fmOf}
@@ -38,7 +38,7 @@ use denote.Triple.Statement.{Contract, Triple}
 use denote.Triple.Entry.{Args, Vals, alive, onEntry}
 use denote.Triple.Spec.{Meets, tripleOf}
 use denote.Triple.Table.{entered, cited}
-use denote.Triple.Walked.{says, Stays, walkOf}
+use denote.Triple.Walked.{Stays, walkOf}
 use Rattle.registers.proofs.Words.Laws as N′
 use Rattle.drawing.specs.Drawing.{drawn}
 use Rattle.drawing.specs.declared.pixel.Drawn.{Drawn}
@@ -50,7 +50,7 @@ use Rattle.drawing.proofs.pixel.draw_pixel.Symbol.{name as #drawing·draw-pixel
 use Rattle.drawing.proofs.pixel.draw_pixel.Met as draw-thm
 use Rattle.reader.specs.Reading.{lookUp}
 use Rattle.reader.specs.declared.Reader.{Reader}
-use Rattle.laws.specs.Walks.{copied, freed, told, givenUp, all-go, ends-in, meets}
+use Rattle.laws.specs.Walks.{copied, freed, told, givenUp, all-go, ends-told, meets}
 use Rattle.reader.proofs.Reader as T
 use Rattle.reader.proofs.Reader.Laws as T′
 use Rattle.reader.proofs.Reader.pixel.Key.{name as #reader·pixel}
@@ -135,14 +135,6 @@ module _ {M : Type 1} (𝓤 : URA M) (H : Heap 𝓤) (A : Atoms 𝓤) (W : Given
   abbrev found : Drawn → Type 0
   found t = drawn t ≡ lookUp d (now p) r c
 
-  exits : (t : Drawn) (u : Val) → found t
-      → ent 𝓤 (⋆ 𝓤 H A (‵ (S.the-row .own t (u ∷ [])) ∷ raw (alive 𝓤 H A pixel.signature κs qs) ∷ [])) (Post u)
-  exits t u e =
-      qed W (‵ (S.the-row .own t (u ∷ [])) ∷ raw (alive 𝓤 H A pixel.signature κs qs) ∷ []) ∵
-      suffices ! _
-      (ends-in 𝓤 H A W pixel.ended (pixel.clauses 𝓤 H A mem run) ((κs, qs, tt, x, at), tt) u t (tt, (tt, (tt, (tt, tt))))) $
-      says ! e $ move ! (1 ∷ 0 ∷ []) $ done !
-
   module _ (C : Calls 𝓤 H) (Λ : Loops 𝓤 H) (fm : FmC 𝓤 H (W .laws) C)
       (known : Triple 𝓤 (C #drawing·draw-pixel) (Draw 𝓤 H A mem run)) where
     walk : Holds (hasTy (T′.mir (named 0)) mach) × WT mach → Is (ShrSlice (named 1) κ′ u16) p (v ∷ [])
@@ -175,7 +167,8 @@ module _ {M : Type 1} (𝓤 : URA M) (H : Heap 𝓤) (A : Atoms 𝓤) (W : Given
         land ! (from ! (stop !)) (init ! 16 refl (EL.lawful S.the-type S′.the-laws 𝓤 H A W tt .typed t _ is .0)) $
         returns ! (look ! 16 refl) $
         freed ! 16 refl refl $ freed ! 14 refl refl $ freed ! 12 refl refl $ freed ! 10 refl refl $
-        freed ! 8 refl refl $ freed ! 6 refl refl $ freed ! 4 refl refl $ freed ! 2 refl refl $ free0 ! $ by ! (exits t u e)))))))))))
+        freed ! 8 refl refl $ freed ! 6 refl refl $ freed ! 4 refl refl $ freed ! 2 refl refl $ free0 ! $
+        by ! (ends-told 𝓤 H A W pixel.ended (pixel.clauses 𝓤 H A mem run) ((κs, qs, tt, x, at), tt) u t (tt, (tt, (tt, (tt, tt)))) (found t) refl e)))))))))))
 
 pixel-meets : {M : Type 1} (𝓤 : URA M) (H : Heap 𝓤) (A : Atoms 𝓤) (W : Given 𝓤 H A)
     (mem : Memory → SProp 𝓤) (run : Routine → Fun 𝓤) (𝓣 : Tables 𝓤 H) → Triple 𝓤 (𝓣 .C #drawing·draw-pixel) (Draw 𝓤 H A mem run)
