@@ -1,0 +1,33 @@
+-- `entries::reading::read_fields_of` meets its contract. Assumes nothing.
+use borrow.Author.Needs.{needs}
+use mathlib.Core.Path.{sym, ap, _∙_}
+use Rattle.laws.specs.Answers.{writes-on, leaves-on}
+use Rattle.fields.specs.Reading.{fieldsRead}
+use Rattle.entries.specs.Reading.{readFieldsOf}
+use Rattle.entries.proofs.reading.read_fields_of.Statement.{statement}
+use Rattle.entries.proofs.reading.read_fields_of.Tie as tie
+
+returns : tie.Need-returns
+unfolding readFieldsOf
+returns c =
+    let f = c .before .before .before .before .before .f .given in
+    writes-on _ _ _ (f .0 .0) _
+    (sym (ap fieldsRead (f .1)) ∙ c .before .before .before .before .before .before .before .read .ensures) (c .before .before .put-fields .ensures)
+
+returns-2 : tie.Need-returns-2
+unfolding readFieldsOf
+returns-2 c =
+    let n = c .before .n .given in
+    leaves-on _ _ _ (n .0 .0) (sym (ap fieldsRead (n .1)) ∙ c .before .before .before .read .ensures)
+
+pub read-fields-of-spec : {M : Type 1} → statement M
+read-fields-of-spec =
+    tie.close
+    (tie.spec
+    (λ c κs. tt)
+    (λ c. search needs)
+    (λ c κs. tt)
+    (λ c. search needs)
+    (λ c. search needs)
+    returns
+    returns-2)

@@ -1,0 +1,33 @@
+-- `entries::writing::write_fields_of` meets its contract. Assumes nothing.
+use borrow.Author.Needs.{needs}
+use mathlib.Core.Path.{sym, ap, _∙_}
+use Rattle.laws.specs.Answers.{writes-on, leaves-on}
+use Rattle.fields.specs.Writing.{wordsWritten}
+use Rattle.entries.specs.Writing.{writeFieldsOf}
+use Rattle.entries.proofs.writing.write_fields_of.Statement.{statement}
+use Rattle.entries.proofs.writing.write_fields_of.Tie as tie
+
+returns : tie.Need-returns
+unfolding writeFieldsOf
+returns c =
+    let w = c .before .before .before .before .before .w .given in
+    writes-on _ _ _ (w .0 .0) _
+    (sym (ap wordsWritten (w .1)) ∙ c .before .before .before .before .before .before .before .write .ensures) (c .before .before .put-words .ensures)
+
+returns-2 : tie.Need-returns-2
+unfolding writeFieldsOf
+returns-2 c =
+    let n = c .before .n .given in
+    leaves-on _ _ _ (n .0 .0) (sym (ap wordsWritten (n .1)) ∙ c .before .before .before .write .ensures)
+
+pub write-fields-of-spec : {M : Type 1} → statement M
+write-fields-of-spec =
+    tie.close
+    (tie.spec
+    (λ c κs. tt)
+    (λ c. search needs)
+    (λ c κs. search needs)
+    (λ c. search needs)
+    (λ c. search needs)
+    returns
+    returns-2)

@@ -1,0 +1,106 @@
+// The writable fields of the nine words, to a lent slice (document 01, "The nine words"): in the order of the words and, within a
+// word, from its highest bits down. Entries 0 to 13 are LCDCON1 to LCDCON4, 14 to 26 LCDCON5, 27 to 33 the addresses and TPAL.
+ghost use mathlib.Core.Path.{_≡_};
+ghost use Prim.Native.Nat.{_≤_};
+ghost use lib.ListN.{length};
+ghost use Rattle.laws.specs.Answers.{leaves};
+ghost use Rattle.entries.specs.Reading.{putTiming, putLcdcon5, putAddresses, putFields, readFieldsOf, readFields};
+use fields::Fields;
+use fields::FieldsRead;
+use fields::Lcdcon5;
+use fields::read;
+use registers::Loaded;
+use registers::Words;
+use registers::load;
+
+fn put_timing(f: Fields, fields: &mut [u32])
+    requires { ⌜ 34 ≤ length (now fields) ⌝ }
+    ensures { λ _. ⌜ now (fields .exit) ≡ putTiming f (now (fields .entry)) ⌝ }
+{
+    let con1 = f.lcdcon1;
+    let con2 = f.lcdcon2;
+    let con3 = f.lcdcon3;
+    let con4 = f.lcdcon4;
+    fields[0] = con1.clkval;
+    fields[1] = con1.mmode;
+    fields[2] = con1.pnrmode;
+    fields[3] = con1.bppmode;
+    fields[4] = con1.envid;
+    fields[5] = con2.vbpd;
+    fields[6] = con2.lineval;
+    fields[7] = con2.vfpd;
+    fields[8] = con2.vspw;
+    fields[9] = con3.hbpd;
+    fields[10] = con3.hozval;
+    fields[11] = con3.hfpd;
+    fields[12] = con4.mval;
+    fields[13] = con4.hspw;
+}
+
+fn put_lcdcon5(f: Lcdcon5, fields: &mut [u32])
+    requires { ⌜ 34 ≤ length (now fields) ⌝ }
+    ensures { λ _. ⌜ now (fields .exit) ≡ putLcdcon5 f (now (fields .entry)) ⌝ }
+{
+    fields[14] = f.bpp24bl;
+    fields[15] = f.frm565;
+    fields[16] = f.invvclk;
+    fields[17] = f.invvline;
+    fields[18] = f.invvframe;
+    fields[19] = f.invvd;
+    fields[20] = f.invvden;
+    fields[21] = f.invpwren;
+    fields[22] = f.invlend;
+    fields[23] = f.pwren;
+    fields[24] = f.enlend;
+    fields[25] = f.bswp;
+    fields[26] = f.hwswp;
+}
+
+fn put_addresses(f: Fields, fields: &mut [u32])
+    requires { ⌜ 34 ≤ length (now fields) ⌝ }
+    ensures { λ _. ⌜ now (fields .exit) ≡ putAddresses f (now (fields .entry)) ⌝ }
+{
+    let upper = f.lcdsaddr1;
+    let lower = f.lcdsaddr2;
+    let row = f.lcdsaddr3;
+    let tpal = f.tpal;
+    fields[27] = upper.lcdbank;
+    fields[28] = upper.lcdbaseu;
+    fields[29] = lower.lcdbasel;
+    fields[30] = row.offsize;
+    fields[31] = row.pagewidth;
+    fields[32] = tpal.tpalen;
+    fields[33] = tpal.tpalval;
+}
+
+fn put_fields(f: Fields, fields: &mut [u32]) -> u32
+    ensures { λ r. ⌜ leaves r (now (fields .exit)) ≡ putFields f (now (fields .entry)) ⌝ }
+{
+    if fields.len() < 34 {
+        return 10;
+    }
+    put_timing(f, fields);
+    put_lcdcon5(f.lcdcon5, fields);
+    put_addresses(f, fields);
+    0
+}
+
+fn read_fields_of(w: Words, fields: &mut [u32]) -> u32
+    ensures { λ r. ⌜ leaves r (now (fields .exit)) ≡ readFieldsOf w (now (fields .entry)) ⌝ }
+{
+    match read(w) {
+        FieldsRead::Read(f) => put_fields(f, fields),
+        FieldsRead::Refused(n) => n,
+    }
+}
+
+// The 34 fields to the first 34 entries of `fields`; the others stay. 10 for a slice short of nine words, then 1, then 10 where
+// `fields` has fewer than 34 entries.
+pub fn read_fields(words: &[u32], fields: &mut [u32]) -> u32
+    ensures { λ r. ⌜ leaves r (now (fields .exit)) ≡ readFields (now (words .entry)) (now (fields .entry)) ⌝ }
+{
+    match load(words) {
+        Loaded::Nine(w) => read_fields_of(w, fields),
+        Loaded::Refused(n) => n,
+    }
+}
