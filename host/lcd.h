@@ -21,6 +21,7 @@
  *    9  ENVID is 0
  *   10  a slice is too short for the call, or the palette has not exactly 256 entries
  *   11  the row or the column is outside the panel
+ *   12  a field is too wide
  *   13  LCDBANK of the pending viewport, or of the new one, differs from that in force
  *   15  the position is not below the frame's clocks
  *
@@ -65,6 +66,56 @@ uint32_t lcd_draw_row(const uint32_t *words, size_t words_len, uint32_t window_s
 uint32_t lcd_draw_picture(const uint32_t *words, size_t words_len, uint32_t window_start, const uint32_t *video,
                           size_t video_len, const uint16_t *palette, size_t palette_len, uint32_t *picture,
                           size_t picture_len);
+
+/* ---- the words field by field
+ *
+ * The writable fields in the order of the words and, within a word, from its highest bits down; the read-only LINECNT, VSTATUS and
+ * HSTATUS are none of them. */
+enum lcd_field {
+    LCD_CLKVAL, LCD_MMODE, LCD_PNRMODE, LCD_BPPMODE, LCD_ENVID,          /* LCDCON1 */
+    LCD_VBPD, LCD_LINEVAL, LCD_VFPD, LCD_VSPW,                           /* LCDCON2 */
+    LCD_HBPD, LCD_HOZVAL, LCD_HFPD,                                      /* LCDCON3 */
+    LCD_MVAL, LCD_HSPW,                                                  /* LCDCON4 */
+    LCD_BPP24BL, LCD_FRM565, LCD_INVVCLK, LCD_INVVLINE, LCD_INVVFRAME,   /* LCDCON5 */
+    LCD_INVVD, LCD_INVVDEN, LCD_INVPWREN, LCD_INVLEND, LCD_PWREN,
+    LCD_ENLEND, LCD_BSWP, LCD_HWSWP,
+    LCD_LCDBANK, LCD_LCDBASEU,                                           /* LCDSADDR1 */
+    LCD_LCDBASEL,                                                        /* LCDSADDR2 */
+    LCD_OFFSIZE, LCD_PAGEWIDTH,                                          /* LCDSADDR3 */
+    LCD_TPALEN, LCD_TPALVAL,                                             /* TPAL */
+    LCD_FIELDS
+};
+
+/* Reads the 34 fields of the nine words, to the first 34 entries of `fields`. Further entries stay.
+ * Refuses 10 (fewer than nine words), then 1, then 10 (`fields` has fewer than 34 entries). */
+uint32_t lcd_read_fields(const uint32_t *words, size_t words_len, uint32_t *fields, size_t fields_len);
+
+/* Writes the nine words that have the first 34 entries of `fields` as their fields, to the first nine entries of `words`; read-only
+ * bits are 0. Further entries stay. What lcd_read_fields reads of them are these fields.
+ * Refuses 10 (`fields` has fewer than 34 entries, or `words` fewer than nine), then 12. */
+uint32_t lcd_write_fields(const uint32_t *fields, size_t fields_len, uint32_t *words, size_t words_len);
+
+/* What the fields say of the panel, each a number from 1 on but for LCD_STORED_BITS. */
+enum lcd_size {
+    LCD_WIDTH,            /* pixels in a row, W */
+    LCD_HEIGHT,           /* rows, H */
+    LCD_STORED_BITS,      /* stored bits a pixel, S; 0 where BPPMODE is outside 8..13 */
+    LCD_TICKS,            /* HCLK ticks a clock */
+    LCD_HSYNC_CLOCKS,     /* clocks of a line: sync, back porch, (W,) front porch, and all */
+    LCD_HBACK_CLOCKS,
+    LCD_HFRONT_CLOCKS,
+    LCD_LINE_CLOCKS,
+    LCD_VSYNC_LINES,      /* lines of a frame: sync, back porch, (H,) front porch, and all */
+    LCD_VBACK_LINES,
+    LCD_VFRONT_LINES,
+    LCD_FRAME_LINES,
+    LCD_SIZES
+};
+
+/* Reads the 12 sizes of the panel, to the first 12 entries of `sizes`. Further entries stay. It is judged as reading fields is, so it
+ * answers for words too that the other calls refuse by 2 to 7.
+ * Refuses 10 (fewer than nine words), then 1, then 10 (`sizes` has fewer than 12 entries). */
+uint32_t lcd_read_sizes(const uint32_t *words, size_t words_len, uint32_t *sizes, size_t sizes_len);
 
 /* ---- the scan, clock by clock
  *

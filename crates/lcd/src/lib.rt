@@ -17,6 +17,7 @@ use registers::Loaded;
 use registers::Words;
 use registers::load;
 
+pub mod reading;
 pub mod scan;
 
 // The check: 10 for a slice short of nine words, then 1 to 8.
