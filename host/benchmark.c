@@ -1,8 +1,9 @@
 /* Speed of picture and row drawing: the library against one plain C loop for each mode, in one run of one program; and of the
- * scan-out: runs against the library's picture, steps against its pixel.
+ * scan-out: runs and steps against a plain C scan, and single pixels.
  * Both draw the same frame buffer into their own buffers; the results are compared first. For each mode the two are timed
  * in turn, many rounds, and the fastest round of each counts: a time of this machine at its best, not a promise.
  * The C loops take the numbers ready made and check nothing; the library's calls judge words, memory, palette and picture. */
+#define _POSIX_C_SOURCE 199309L
 #include <stdint.h>
 #include <stdio.h>
 #include <stdlib.h>
@@ -33,6 +34,10 @@ static inline uint32_t c5551(uint32_t v) {
             for (unsigned k = 0; k < 32 / bits; k++)                                                             \
                 out[i * (32 / bits) + k] = colour(pal[x >> (32 - bits * (k + 1)) & ((1u << bits) - 1)]);         \
         }                                                                                                        \
+    }                                                                                                            \
+    static uint32_t name##_pixel(const uint32_t *in, const uint16_t *pal, size_t c) {                            \
+        uint32_t x = order(in[c / (32 / bits)]);                                                                 \
+        return colour(pal[x >> (32 - bits * (c % (32 / bits) + 1)) & ((1u << bits) - 1)]);                       \
     }
 #define DIRECT16(name, order, colour)                                                                            \
     static void name(const uint32_t *restrict in, const uint16_t *restrict pal, size_t n, uint32_t *restrict out) { \
@@ -42,12 +47,20 @@ static inline uint32_t c5551(uint32_t v) {
             out[2 * i] = colour(x >> 16);                                                                        \
             out[2 * i + 1] = colour(x & 0xffff);                                                                 \
         }                                                                                                        \
+    }                                                                                                            \
+    static uint32_t name##_pixel(const uint32_t *in, const uint16_t *pal, size_t c) {                            \
+        (void)pal;                                                                                               \
+        return colour(order(in[c / 2]) >> (c % 2 ? 0 : 16) & 0xffff);                                            \
     }
 #define DIRECT24(name, cut)                                                                                      \
     static void name(const uint32_t *restrict in, const uint16_t *restrict pal, size_t n, uint32_t *restrict out) { \
         (void)pal;                                                                                               \
         for (size_t i = 0; i < n; i++)                                                                           \
             out[i] = cut;                                                                                        \
+    }                                                                                                            \
+    static uint32_t name##_pixel(const uint32_t *in, const uint16_t *pal, size_t i) {                            \
+        (void)pal;                                                                                               \
+        return cut;                                                                                              \
     }
 
 INDEXED(c1, 1, keep, c565)
@@ -71,23 +84,24 @@ struct mode {
     const char *name;
     unsigned bppmode, bits, lcdcon5;
     void (*row)(const uint32_t *, const uint16_t *, size_t, uint32_t *);
+    uint32_t (*pixel)(const uint32_t *, const uint16_t *, size_t);
 };
 
 static const struct mode modes[] = {
-    {"1 bit, 5:6:5", 8, 1, 0x800, c1},
-    {"1 bit, 5:5:5:1, BSWP", 8, 1, 0x2, c1s},
-    {"2 bits, 5:6:5", 9, 2, 0x800, c2},
-    {"2 bits, 5:5:5:1, BSWP", 9, 2, 0x2, c2s},
-    {"4 bits, 5:6:5", 10, 4, 0x800, c4},
-    {"4 bits, 5:5:5:1, BSWP", 10, 4, 0x2, c4s},
-    {"8 bits, 5:6:5", 11, 8, 0x800, c8},
-    {"8 bits, 5:5:5:1, BSWP", 11, 8, 0x2, c8s},
-    {"16 bits, 5:6:5", 12, 16, 0x800, c16},
-    {"16 bits, 5:6:5, HWSWP", 12, 16, 0x801, c16s},
-    {"16 bits, 5:5:5:1", 12, 16, 0, c16i},
-    {"16 bits, 5:5:5:1, HWSWP", 12, 16, 0x1, c16is},
-    {"24 bits", 13, 32, 0, c24},
-    {"24 bits, BPP24BL", 13, 32, 0x1000, c24b},
+    {"1 bit, 5:6:5", 8, 1, 0x800, c1, c1_pixel},
+    {"1 bit, 5:5:5:1, BSWP", 8, 1, 0x2, c1s, c1s_pixel},
+    {"2 bits, 5:6:5", 9, 2, 0x800, c2, c2_pixel},
+    {"2 bits, 5:5:5:1, BSWP", 9, 2, 0x2, c2s, c2s_pixel},
+    {"4 bits, 5:6:5", 10, 4, 0x800, c4, c4_pixel},
+    {"4 bits, 5:5:5:1, BSWP", 10, 4, 0x2, c4s, c4s_pixel},
+    {"8 bits, 5:6:5", 11, 8, 0x800, c8, c8_pixel},
+    {"8 bits, 5:5:5:1, BSWP", 11, 8, 0x2, c8s, c8s_pixel},
+    {"16 bits, 5:6:5", 12, 16, 0x800, c16, c16_pixel},
+    {"16 bits, 5:6:5, HWSWP", 12, 16, 0x801, c16s, c16s_pixel},
+    {"16 bits, 5:5:5:1", 12, 16, 0, c16i, c16i_pixel},
+    {"16 bits, 5:5:5:1, HWSWP", 12, 16, 0x1, c16is, c16is_pixel},
+    {"24 bits", 13, 32, 0, c24, c24_pixel},
+    {"24 bits, BPP24BL", 13, 32, 0x1000, c24b, c24b_pixel},
 };
 
 struct panel {
@@ -188,6 +202,59 @@ static uint32_t scan[LCD_SCAN_ENTRIES];
 
 static unsigned line_clocks(const struct panel *p) { return CLOCKS_BEFORE + p->width + CLOCKS_AFTER; }
 static unsigned frame_lines(const struct panel *p) { return LINES_BEFORE + p->height + LINES_AFTER; }
+static unsigned frame_clocks(const struct panel *p) { return frame_lines(p) * line_clocks(p); }
+
+/* ---- the plain scan: two counters, no check; not inlined, since the library's calls are not */
+
+static struct {
+    unsigned line, clock;
+    uint32_t vsync, hsync, vden, vd;
+} plain;
+
+static void plain_advance(const struct panel *p, unsigned clocks) {
+    plain.clock += clocks;
+    if (plain.clock < line_clocks(p))
+        return;
+    plain.clock = 0;
+    if (++plain.line == frame_lines(p))
+        plain.line = 0;
+}
+
+__attribute__((noinline)) static void plain_step(const struct panel *p) {
+    unsigned row = plain.line - LINES_BEFORE, column = plain.clock - CLOCKS_BEFORE;
+    plain.vsync = plain.line < VSPW + 1;
+    plain.hsync = plain.clock < HSPW + 1;
+    plain.vden = row < p->height && column < p->width;
+    plain.vd = plain.vden ? p->mode->pixel(video + row * p->stride, palette, column) : 0;
+    plain_advance(p, 1);
+}
+
+/* The active clocks of one line's stretch. */
+static void plain_stretch(const struct panel *p, unsigned row, unsigned from, unsigned to) {
+    const uint32_t *in = video + row * p->stride;
+    uint32_t *out = theirs + row * p->width;
+    if (from == 0 && to == p->width)
+        p->mode->row(in, palette, p->width, out);
+    else
+        for (unsigned c = from; c < to; c++)
+            out[c] = p->mode->pixel(in, palette, c);
+}
+
+__attribute__((noinline)) static void plain_run(const struct panel *p, uint64_t clocks) {
+    uint64_t left = (uint64_t)(frame_lines(p) - plain.line) * line_clocks(p) - plain.clock;
+    if (clocks > left)
+        clocks = left;
+    while (clocks) {
+        unsigned row = plain.line - LINES_BEFORE, end = line_clocks(p);
+        unsigned to = clocks < end - plain.clock ? plain.clock + clocks : end, taken = to - plain.clock;
+        unsigned last = to < CLOCKS_BEFORE + p->width ? to : CLOCKS_BEFORE + p->width;
+        unsigned first = plain.clock > CLOCKS_BEFORE ? plain.clock : CLOCKS_BEFORE;
+        if (row < p->height && first < last)
+            plain_stretch(p, row, first - CLOCKS_BEFORE, last - CLOCKS_BEFORE);
+        plain_advance(p, taken);
+        clocks -= taken;
+    }
+}
 
 static void start(struct panel *p) {
     p->words[0] |= CLKVAL << 8;
@@ -195,7 +262,10 @@ static void start(struct panel *p) {
     p->words[2] |= HBPD << 19 | HFPD;
     p->words[3] = HSPW;
     refuse(lcd_start(p->words, 9, START, video, p->stride * p->height, scan, LCD_SCAN_ENTRIES));
+    memset(&plain, 0, sizeof plain);
 }
+
+/* ---- what both do: a run, a step, a pixel */
 
 static void run(const struct panel *p, uint64_t clocks) {
     refuse(lcd_run(scan, LCD_SCAN_ENTRIES, video, p->stride * p->height, palette, 256, clocks, ours, p->width * p->height));
@@ -205,20 +275,20 @@ static void step(const struct panel *p) {
     refuse(lcd_step(scan, LCD_SCAN_ENTRIES, video, p->stride * p->height, palette, 256));
 }
 
-static void frame_run(const struct panel *p) { run(p, (uint64_t)frame_lines(p) * line_clocks(p)); }
+typedef void runner(const struct panel *, uint64_t);
+typedef void stepper(const struct panel *);
 
-static void line_runs(const struct panel *p) {
-    for (unsigned i = 0; i < frame_lines(p); i++)
-        run(p, line_clocks(p));
+static void runs(const struct panel *p, runner *run_by, unsigned clocks) {
+    for (unsigned i = 0; i < frame_clocks(p); i += clocks)
+        run_by(p, clocks);
 }
 
-static void runs_of(const struct panel *p, uint64_t clocks) {
-    for (unsigned i = 0; i < frame_lines(p) * line_clocks(p); i++)
-        run(p, clocks);
-}
-
-static void runs_of_0(const struct panel *p) { runs_of(p, 0); }
-static void runs_of_1(const struct panel *p) { runs_of(p, 1); }
+static void frame_run(const struct panel *p) { runs(p, run, frame_clocks(p)); }
+static void line_runs(const struct panel *p) { runs(p, run, line_clocks(p)); }
+static void runs_of_1(const struct panel *p) { runs(p, run, 1); }
+static void plain_frame_run(const struct panel *p) { runs(p, plain_run, frame_clocks(p)); }
+static void plain_line_runs(const struct panel *p) { runs(p, plain_run, line_clocks(p)); }
+static void plain_runs_of_1(const struct panel *p) { runs(p, plain_run, 1); }
 
 static void our_pixels(const struct panel *p) {
     for (unsigned r = 0; r < p->height; r++)
@@ -227,97 +297,124 @@ static void our_pixels(const struct panel *p) {
                                   ours + r * p->width + c, 1));
 }
 
-static double steps(const struct panel *p, unsigned n) {
+static void their_pixels(const struct panel *p) {
+    for (unsigned r = 0; r < p->height; r++)
+        for (unsigned c = 0; c < p->width; c++)
+            theirs[r * p->width + c] = p->mode->pixel(video + r * p->stride, palette, c);
+}
+
+static double steps(const struct panel *p, stepper *step_by, unsigned n) {
     double from = seconds();
     while (n--)
-        step(p);
+        step_by(p);
     return seconds() - from;
 }
 
 /* A frame step by step: seconds over its active clocks and over its blank ones. */
-static void frame_steps(const struct panel *p, double spent[2]) {
+static void frame_steps(const struct panel *p, stepper *step_by, double spent[2]) {
     spent[0] = 0;
-    spent[1] = steps(p, LINES_BEFORE * line_clocks(p));
+    spent[1] = steps(p, step_by, LINES_BEFORE * line_clocks(p));
     for (unsigned r = 0; r < p->height; r++) {
-        spent[1] += steps(p, CLOCKS_BEFORE);
-        spent[0] += steps(p, p->width);
-        spent[1] += steps(p, CLOCKS_AFTER);
+        spent[1] += steps(p, step_by, CLOCKS_BEFORE);
+        spent[0] += steps(p, step_by, p->width);
+        spent[1] += steps(p, step_by, CLOCKS_AFTER);
     }
-    spent[1] += steps(p, LINES_AFTER * line_clocks(p));
+    spent[1] += steps(p, step_by, LINES_AFTER * line_clocks(p));
 }
 
-/* The picture that the steps of a frame show, from what each leaves. */
-static void picture_of_steps(const struct panel *p) {
-    uint32_t *next = ours;
-    for (unsigned i = 0; i < frame_lines(p) * line_clocks(p); i++) {
-        step(p);
-        if (scan[LCD_VDEN])
-            *next++ = scan[LCD_VD];
-    }
-    if (next != ours + p->width * p->height) {
-        printf("%s: not as many active clocks as pixels\n", p->mode->name);
-        exit(1);
-    }
+/* ---- that both do the same */
+
+static void differ(const struct panel *p, const char *what) {
+    printf("%s, %s: the two differ\n", p->mode->name, what);
+    exit(1);
 }
 
-static void check_scan(const struct panel *p, void (*draw)(const struct panel *), const char *what) {
+static void check_scan(const struct panel *p, stepper *our, stepper *their, const char *what) {
     memset(ours, 0, sizeof *ours * p->width * p->height);
-    draw(p), check_equal(p, what);
-    if (scan[LCD_POSITION]) {
-        printf("%s, %s: the frame does not end\n", p->mode->name, what);
-        exit(1);
+    memset(theirs, 0xff, sizeof *theirs * p->width * p->height);
+    our(p), their(p), check_equal(p, what);
+    if (scan[LCD_POSITION] != plain.line * line_clocks(p) + plain.clock)
+        differ(p, what);
+}
+
+static void check_steps(const struct panel *p) {
+    for (unsigned i = 0; i < frame_clocks(p); i++) {
+        step(p), plain_step(p);
+        if (scan[LCD_VSYNC] != plain.vsync || scan[LCD_HSYNC] != plain.hsync || scan[LCD_VDEN] != plain.vden ||
+            scan[LCD_VD] != plain.vd)
+            differ(p, "steps");
     }
 }
+
+/* ---- the times: of each pair first the plain one's, then the library's */
 
 static void least(double *best, double t) {
     if (t < *best)
         *best = t;
 }
 
-enum { PICTURE, FRAME_RUN, LINE_RUNS, PIXEL, ACTIVE, BLANK, RUN_0, RUN_1, TIMES };
+enum { FRAME, LINES, ONES, ACTIVE = ONES, BLANK, RUN_OF_1, PIXEL, PAIRS, SCANNED = 3 };
 
-static void measure_scan(const struct panel *p, double best[TIMES]) {
-    double pixels = p->width * p->height, clocks = frame_lines(p) * line_clocks(p);
-    their_picture(p);
-    check_scan(p, frame_run, "run"), check_scan(p, line_runs, "line runs"), check_scan(p, runs_of_1, "runs of one clock");
-    check_scan(p, our_pixels, "pixels"), check_scan(p, picture_of_steps, "steps");
-    for (int k = 0; k < TIMES; k++)
-        best[k] = 1e9;
-    for (int i = 0; i < ROUNDS; i++) {
-        least(&best[PICTURE], once(our_picture, p) / pixels);
-        least(&best[FRAME_RUN], once(frame_run, p) / pixels);
-        least(&best[LINE_RUNS], once(line_runs, p) / pixels);
-    }
-    for (int i = 0; i < SLOW_ROUNDS; i++) {
-        double spent[2];
-        least(&best[PIXEL], once(our_pixels, p) / pixels);
-        frame_steps(p, spent);
-        least(&best[ACTIVE], spent[0] / pixels), least(&best[BLANK], spent[1] / (clocks - pixels));
-        least(&best[RUN_0], once(runs_of_0, p) / clocks), least(&best[RUN_1], once(runs_of_1, p) / clocks);
-    }
-    for (int k = 0; k < TIMES; k++)
-        best[k] *= 1e9;
+static void measure_pairs(const struct panel *p, double best[PAIRS][2]) {
+    double pixels = p->width * p->height, clocks = frame_clocks(p);
+    static stepper *const runs_by[2][2] = {{plain_frame_run, frame_run}, {plain_line_runs, line_runs}};
+    static stepper *const calls_by[3][2] = {{plain_step, step}, {their_pixels, our_pixels}, {plain_runs_of_1, runs_of_1}};
+    for (int i = 0; i < ROUNDS; i++)
+        for (int k = 0; k < 2; k++) {
+            least(&best[FRAME][k], once(runs_by[0][k], p) / pixels);
+            least(&best[LINES][k], once(runs_by[1][k], p) / pixels);
+        }
+    for (int i = 0; i < SLOW_ROUNDS; i++)
+        for (int k = 0; k < 2; k++) {
+            double spent[2];
+            frame_steps(p, calls_by[0][k], spent);
+            least(&best[ACTIVE][k], spent[0] / pixels), least(&best[BLANK][k], spent[1] / (clocks - pixels));
+            least(&best[PIXEL][k], once(calls_by[1][k], p) / pixels);
+            least(&best[RUN_OF_1][k], once(calls_by[2][k], p) / clocks);
+        }
 }
 
-static void scan_table(unsigned width, unsigned height) {
-    static const char *const names[] = {"8 bits, 5:6:5", "16 bits, 5:6:5", "24 bits"};
-    printf("\n%u by %u, runs and steps: ns a pixel for the picture, a run of a frame and runs of a line; ns a call for the rest\n\n"
-           "| mode | picture | frame | ratio | lines | ratio | pixel | active step | ratio | blank step | ratio | run of 0 | run of 1 |\n"
-           "|---|---|---|---|---|---|---|---|---|---|---|---|---|\n",
-           width, height);
-    for (size_t i = 0; i < sizeof modes / sizeof *modes; i++)
-        for (size_t k = 0; k < sizeof names / sizeof *names; k++) {
-            struct panel p;
-            double t[TIMES];
-            if (strcmp(modes[i].name, names[k]))
-                continue;
-            describe(&p, &modes[i], width, height);
-            start(&p);
-            measure_scan(&p, t);
-            printf("| %s | %.3f | %.3f | %.2f | %.3f | %.2f | %.1f | %.1f | %.2f | %.1f | %.2f | %.1f | %.1f |\n", modes[i].name,
-                   t[PICTURE], t[FRAME_RUN], t[FRAME_RUN] / t[PICTURE], t[LINE_RUNS], t[LINE_RUNS] / t[PICTURE], t[PIXEL],
-                   t[ACTIVE], t[ACTIVE] / t[PIXEL], t[BLANK], t[BLANK] / t[PIXEL], t[RUN_0], t[RUN_1]);
-        }
+static void measure_scan(const struct panel *p, double best[PAIRS][2]) {
+    check_scan(p, frame_run, plain_frame_run, "a run of a frame");
+    check_scan(p, line_runs, plain_line_runs, "runs of a line");
+    check_scan(p, runs_of_1, plain_runs_of_1, "runs of one clock");
+    check_scan(p, our_pixels, their_pixels, "pixels");
+    check_steps(p);
+    for (int k = 0; k < PAIRS; k++)
+        best[k][0] = best[k][1] = 1e9;
+    measure_pairs(p, best);
+}
+
+/* A table of some of the pairs, for the modes that were measured. */
+static void print_pairs(const char *title, const char *head, const int *chosen, double t[][PAIRS][2], int from, int to) {
+    printf("\n%s\n\n| mode |%s\n|---|", title, head);
+    for (int k = from; k < to; k++)
+        printf("---|---|---|");
+    putchar('\n');
+    for (int i = 0; i < SCANNED; i++) {
+        printf("| %s |", modes[chosen[i]].name);
+        for (int k = from; k < to; k++)
+            printf(k < ONES ? " %.3f | %.3f | %.2f |" : " %.1f | %.1f | %.1f |", t[i][k][0] * 1e9, t[i][k][1] * 1e9,
+                   t[i][k][1] / t[i][k][0]);
+        putchar('\n');
+    }
+}
+
+static void scan_tables(unsigned width, unsigned height) {
+    static const int chosen[SCANNED] = {6, 8, 12}; /* of `modes`: 8, 16 and 24 bits */
+    double t[SCANNED][PAIRS][2];
+    char title[100];
+    for (int i = 0; i < SCANNED; i++) {
+        struct panel p;
+        describe(&p, &modes[chosen[i]], width, height);
+        start(&p);
+        measure_scan(&p, t[i]);
+    }
+    snprintf(title, sizeof title, "%u by %u, runs: ns a pixel", width, height);
+    print_pairs(title, " a frame, C | library | ratio | a line, C | library | ratio |", chosen, t, FRAME, ONES);
+    snprintf(title, sizeof title, "%u by %u, single clocks and pixels: ns a call", width, height);
+    print_pairs(title, " active step, C | library | ratio | blank step, C | library | ratio | run of 1 clock, C | library | ratio |"
+                       " pixel, C | library | ratio |", chosen, t, ONES, PAIRS);
 }
 
 int main(void) {
@@ -332,7 +429,7 @@ int main(void) {
         palette[i] = (x = x * 1664525 + 1013904223) >> 16;
     table(320, 240);
     table(640, 480);
-    scan_table(320, 240);
-    scan_table(640, 480);
+    scan_tables(320, 240);
+    scan_tables(640, 480);
     return 0;
 }

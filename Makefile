@@ -1,0 +1,45 @@
+# Builds what is not proved itself: the archive of the C interface from the crates, and the C programs of host/ over it. Only what
+# changed is built again. `make` builds all; `.ci/run` runs all tests.
+CC = gcc
+CFLAGS = -std=c11 -O2 -Wall -Wextra -Werror
+SANITIZE = -g -fsanitize=address,undefined -fno-sanitize-recover=all
+
+archive = target/staticlib/liblcd.a
+lcd_crates := lcd $(shell sed -n 's/^lcd://p' crates.txt)
+lcd_sources := crates.txt $(shell find $(lcd_crates:%=crates/%) -name '*.rt' -o -name '*.antt')
+shot := $(patsubst host/%.c,target/host/%.o,$(wildcard host/shot/*.c))
+programs = $(addprefix target/host/,lcdshot example benchmark differential differential-sanitized)
+
+all: $(programs)
+
+# `rt` proves the crates first, those that it has not proved yet; its many lines are shown where it fails
+$(archive): $(lcd_sources)
+	@mkdir -p target
+	@echo "proving and building $@ (some minutes where nothing is proved yet)" >&2
+	@rt staticlib lcd > target/staticlib.log 2>&1 || { cat target/staticlib.log >&2; exit 1; }
+	@touch $@
+
+target/host/%.o: host/%.c
+	@mkdir -p $(@D)
+	$(CC) $(CFLAGS) -MMD -MP -c -o $@ $<
+
+# the plain loops of the benchmark are measured at -O3
+target/host/benchmark.o: CFLAGS = -std=c11 -O3 -Wall -Wextra -Werror
+
+target/host/lcdshot: $(shot) $(archive)
+	$(CC) -o $@ $(shot) $(archive) -lpng
+
+target/host/example target/host/benchmark: target/host/%: target/host/%.o $(archive)
+	$(CC) -o $@ $< $(archive)
+
+target/host/differential: target/host/differential.o target/host/model.o $(archive)
+	$(CC) -o $@ $^
+
+target/host/differential-sanitized: host/differential.c host/model.c host/model.h host/lcd.h $(archive)
+	@mkdir -p $(@D)
+	$(CC) $(CFLAGS) $(SANITIZE) -o $@ host/differential.c host/model.c $(archive)
+
+-include $(wildcard target/host/*.d target/host/shot/*.d)
+
+.PHONY: all
+.DELETE_ON_ERROR:

@@ -1,0 +1,166 @@
+/* The test card's dump: registers with porches for the size, a palette for the mode, and the card's picture in video memory as
+ * software on the chip stores it, first pixel at the lowest address. The chip takes a word's highest bits first (document 01, "Where
+ * a pixel lies"), so 16 bits want HWSWP and fewer want BSWP. */
+#include "testcard.h"
+#include <stdlib.h>
+#include <string.h>
+#include "../lcd.h"
+#include "card.h"
+#include "files.h"
+
+enum { HCLK = 100000000, START = 0x30000000, BANK = START >> 22, USUAL_MILLIHERTZ = 60000 };
+
+/* ---- sync widths and porches, counted from 1 */
+
+struct timing {
+    uint32_t width, height, hsync, hback, hfront, vsync, vback, vfront;
+};
+
+/* Panels of a known size. The first is the TD035STED4 with the numbers that document 01's T8 has from source 004; the others have
+ * numbers usual for their glass: LQ035Q1DG06, LQ043T3DX02, LQ64D343, AT070TN83. */
+static const struct timing panels[] = {
+    {240, 320, 10, 20, 10, 2, 2, 2},   {320, 240, 4, 68, 66, 9, 4, 4},    {480, 272, 41, 2, 2, 10, 2, 2},
+    {640, 480, 96, 48, 16, 2, 33, 10}, {800, 480, 48, 40, 40, 3, 29, 13},
+};
+
+static uint32_t within(uint32_t n, uint32_t most) { return n < 1 ? 1 : n < most ? n : most; }
+
+/* The panel's numbers, or for any other size some that grow with it. */
+static struct timing timing_for(uint32_t width, uint32_t height) {
+    for (size_t i = 0; i < sizeof panels / sizeof *panels; i++)
+        if (panels[i].width == width && panels[i].height == height)
+            return panels[i];
+    return (struct timing){width,  height, within(width / 16, 256), within(width / 16, 128), within(width / 32, 256),
+                           2,      within(height / 32, 256), within(height / 64, 256)};
+}
+
+/* ---- the registers */
+
+static const uint32_t modes[6] = {1, 2, 4, 8, 16, 24};
+
+static uint32_t mode_of(uint32_t bits) {
+    uint32_t i = 0;
+    while (i < 6 && modes[i] != bits)
+        i++;
+    return i;
+}
+
+bool testcard_mode(uint32_t bits) { return mode_of(bits) < 6; }
+
+static void set_timing(uint32_t *fields, const struct timing *t) {
+    fields[LCD_HOZVAL] = t->width - 1, fields[LCD_LINEVAL] = t->height - 1;
+    fields[LCD_HSPW] = t->hsync - 1, fields[LCD_HBPD] = t->hback - 1, fields[LCD_HFPD] = t->hfront - 1;
+    fields[LCD_VSPW] = t->vsync - 1, fields[LCD_VBPD] = t->vback - 1, fields[LCD_VFPD] = t->vfront - 1;
+}
+
+static void set_fields(uint32_t *fields, uint32_t width, uint32_t height, uint32_t bits) {
+    struct timing t = timing_for(width, height);
+    uint32_t stored = bits == 24 ? 32 : bits;
+    memset(fields, 0, sizeof *fields * LCD_FIELDS);
+    set_timing(fields, &t);
+    fields[LCD_PNRMODE] = 3, fields[LCD_BPPMODE] = 8 + mode_of(bits), fields[LCD_ENVID] = 1;
+    fields[LCD_FRM565] = fields[LCD_INVVLINE] = fields[LCD_INVVFRAME] = fields[LCD_PWREN] = 1;
+    fields[LCD_HWSWP] = bits == 16, fields[LCD_BSWP] = bits < 16;
+    fields[LCD_LCDBANK] = BANK;
+    fields[LCD_PAGEWIDTH] = (uint64_t)width * stored / 16;
+    fields[LCD_LCDBASEL] = (uint64_t)fields[LCD_PAGEWIDTH] * height % (1 << 21);
+}
+
+static uint64_t apart(uint64_t a, uint64_t b) { return a < b ? b - a : a - b; }
+
+/* CLKVAL for the rate nearest to 60 Hz; the TD035STED4 has 4, as in T8. Returns the number of the refusal of the words. */
+static uint32_t set_clock(uint32_t *fields, uint32_t *words) {
+    uint64_t counts[3], best = UINT64_MAX;
+    uint32_t chosen = 4, refusal;
+    bool known = fields[LCD_HOZVAL] == panels[0].width - 1 && fields[LCD_LINEVAL] == panels[0].height - 1;
+    for (uint32_t clkval = 0; clkval < 1024 && !known; clkval++) {
+        fields[LCD_CLKVAL] = clkval;
+        if ((refusal = lcd_write_fields(fields, LCD_FIELDS, words, 9)) || (refusal = lcd_counts(words, 9, HCLK, counts, 3)))
+            return refusal;
+        if (apart(counts[2], USUAL_MILLIHERTZ) < best)
+            best = apart(counts[2], USUAL_MILLIHERTZ), chosen = clkval;
+    }
+    fields[LCD_CLKVAL] = chosen;
+    if ((refusal = lcd_write_fields(fields, LCD_FIELDS, words, 9)))
+        return refusal;
+    return lcd_counts(words, 9, HCLK, counts, 3);
+}
+
+/* ---- the palette */
+
+static uint32_t grey(uint32_t level, uint32_t levels) { return level * 255 / (levels - 1) * 0x010101; }
+
+/* The colour of an entry: black and white, four greys, the bars' colours and eight greys, or a cube of 6 by 6 by 6 and 40 greys. */
+static uint32_t palette_colour(uint32_t bits, uint32_t i) {
+    if (bits < 4)
+        return grey(i, 1 << bits);
+    if (bits == 4)
+        return i < 8 ? (i >> 2 & 1) * 0xff0000 + (i >> 1 & 1) * 0xff00 + (i & 1) * 0xff : i == 8 ? 0x000040 : grey(i - 8, 8);
+    if (i < 216)
+        return (i / 36 * 51) << 16 | (i / 6 % 6 * 51) << 8 | i % 6 * 51;
+    return grey(i - 216, 40);
+}
+
+static uint16_t as_565(uint32_t colour) { return (colour >> 8 & 0xf800) | (colour >> 5 & 0x7e0) | (colour >> 3 & 0x1f); }
+
+static void set_palette(struct dump *d, uint32_t bits) {
+    memset(d->palette, 0, sizeof d->palette);
+    for (uint32_t i = 0; bits <= 8 && i < 1u << bits; i++)
+        d->palette[i] = as_565(palette_colour(bits, i));
+}
+
+static uint32_t distance(uint32_t a, uint32_t b) {
+    uint32_t sum = 0;
+    for (int shift = 0; shift < 24; shift += 8) {
+        int32_t by = (int32_t)(a >> shift & 0xff) - (int32_t)(b >> shift & 0xff);
+        sum += by * by;
+    }
+    return sum;
+}
+
+/* The palette's entry nearest to a colour. */
+static uint32_t nearest(uint32_t bits, uint32_t colour) {
+    uint32_t best = 0;
+    for (uint32_t i = 1; i < 1u << bits; i++)
+        if (distance(palette_colour(bits, i), colour) < distance(palette_colour(bits, best), colour))
+            best = i;
+    return best;
+}
+
+/* ---- the frame buffer, byte by byte, low byte of a number first */
+
+static void put_byte(struct dump *d, size_t at, uint32_t byte) { d->video[at / 4] |= byte << 8 * (at % 4); }
+
+/* Pixel number i of the card, stored in its bytes; pixels smaller than a byte fill it from its highest bits down. */
+static void put_pixel(struct dump *d, size_t i, uint32_t bits, uint32_t colour) {
+    uint32_t number = bits == 24 ? colour : bits == 16 ? as_565(colour) : nearest(bits, colour);
+    uint32_t bytes = bits == 24 ? 4 : bits / 8;
+    if (bits < 8)
+        put_byte(d, i * bits / 8, number << (8 - bits - i * bits % 8));
+    for (uint32_t k = 0; k < bytes; k++)
+        put_byte(d, i * bytes + k, number >> 8 * k & 0xff);
+}
+
+static void fill_video(struct dump *d, uint32_t width, uint32_t height, uint32_t bits) {
+    struct picture card = picture_new(width, height);
+    card_draw(&card, bits);
+    memset(d->video, 0, sizeof *d->video * d->video_len);
+    for (size_t i = 0; i < (size_t)width * height; i++)
+        put_pixel(d, i, bits, card.colours[i]);
+    picture_free(&card);
+}
+
+uint32_t testcard_make(struct dump *d, uint32_t width, uint32_t height, uint32_t bits) {
+    uint32_t fields[LCD_FIELDS], refusal;
+    d->video = NULL;
+    set_fields(fields, width, height, bits);
+    refusal = set_clock(fields, d->words);
+    if (refusal)
+        return refusal;
+    d->hclk = HCLK, d->window_start = START;
+    d->video_len = (size_t)fields[LCD_PAGEWIDTH] / 2 * height;
+    d->video = grow(NULL, sizeof *d->video * d->video_len);
+    set_palette(d, bits);
+    fill_video(d, width, height, bits);
+    return lcd_check(d->words, 9, START, d->video, d->video_len);
+}
