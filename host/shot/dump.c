@@ -20,17 +20,20 @@ static void put_word(uint8_t *p, uint32_t word) {
 static uint8_t *read_all(const char *path, size_t *length) {
     FILE *file = strcmp(path, "-") ? fopen(path, "rb") : stdin;
     size_t room = 1 << 16, got;
-    uint8_t *bytes = grow(NULL, room);
+    uint8_t *bytes;
     if (!file)
         fail(path, strerror(errno));
+    bytes = grow(NULL, room);
     *length = 0;
     while ((got = fread(bytes + *length, 1, room - *length, file)) > 0) {
         *length += got;
         if (*length == room)
             bytes = grow(bytes, room *= 2);
     }
-    if (ferror(file))
+    if (ferror(file)) {
+        free(bytes);
         fail(path, strerror(errno));
+    }
     if (file != stdin)
         fclose(file);
     return bytes;
