@@ -20,8 +20,8 @@ use Rattle.fields.specs.declared.Tpal.{Tpal}
 -- ---- the entries of fields: "LCDCON1 to LCDCON5, LCDSADDR1 to LCDSADDR3, TPAL"
 
 -- of LCDCON1 to LCDCON4
-abbrev pub timingEntries : Fields → List ℕ
-timingEntries f =
+abbrev pub lcdcon1To4Entries : Fields → List ℕ
+lcdcon1To4Entries f =
     lcdcon1Values (f .lcdcon1) ++ lcdcon2Values (f .lcdcon2) ++ lcdcon3Values (f .lcdcon3) ++ lcdcon4Values (f .lcdcon4)
 
 -- of LCDSADDR1 to LCDSADDR3 and TPAL
@@ -31,7 +31,7 @@ addressEntries f =
 
 -- of all nine
 abbrev pub fieldEntries : Fields → List ℕ
-fieldEntries f = timingEntries f ++ lcdcon5Values (f .lcdcon5) ++ addressEntries f
+fieldEntries f = lcdcon1To4Entries f ++ lcdcon5Values (f .lcdcon5) ++ addressEntries f
 
 -- ---- the fields that entries in this order give
 

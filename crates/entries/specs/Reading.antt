@@ -12,11 +12,11 @@ use Rattle.fields.specs.Reading.{read}
 use Rattle.fields.specs.Writing.{lcdcon5Values}
 use Rattle.fields.specs.declared.Fields.{Fields}
 use Rattle.fields.specs.declared.Lcdcon5.{Lcdcon5}
-use Rattle.entries.specs.Order.{timingEntries, addressEntries, fieldEntries}
+use Rattle.entries.specs.Order.{lcdcon1To4Entries, addressEntries, fieldEntries}
 
 -- the slice with the fields of some words at their entries; the others stay
-unfoldable pub putTiming : Fields → List ℕ → List ℕ
-putTiming f out = stores (λ i. getD (timingEntries f) i 0) 0 14 out
+unfoldable pub putLcdcon1To4 : Fields → List ℕ → List ℕ
+putLcdcon1To4 f out = stores (λ i. getD (lcdcon1To4Entries f) i 0) 0 14 out
 
 unfoldable pub putLcdcon5 : Lcdcon5 → List ℕ → List ℕ
 putLcdcon5 f out = stores (λ i. getD (lcdcon5Values f) i 0) 14 13 out

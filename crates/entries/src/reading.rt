@@ -4,7 +4,7 @@ ghost use mathlib.Core.Path.{_≡_};
 ghost use Prim.Native.Nat.{_≤_};
 ghost use lib.ListN.{length};
 ghost use Rattle.laws.specs.Answers.{leaves};
-ghost use Rattle.entries.specs.Reading.{putTiming, putLcdcon5, putAddresses, putFields, readFieldsOf, readFields};
+ghost use Rattle.entries.specs.Reading.{putLcdcon1To4, putLcdcon5, putAddresses, putFields, readFieldsOf, readFields};
 use fields::Fields;
 use fields::FieldsRead;
 use fields::Lcdcon5;
@@ -13,9 +13,9 @@ use registers::Loaded;
 use registers::Words;
 use registers::load;
 
-fn put_timing(f: Fields, fields: &mut [u32])
+fn put_lcdcon1_to_4(f: Fields, fields: &mut [u32])
     requires { ⌜ 34 ≤ length (now fields) ⌝ }
-    ensures { λ _. ⌜ now (fields .exit) ≡ putTiming f (now (fields .entry)) ⌝ }
+    ensures { λ _. ⌜ now (fields .exit) ≡ putLcdcon1To4 f (now (fields .entry)) ⌝ }
 {
     let con1 = f.lcdcon1;
     let con2 = f.lcdcon2;
@@ -60,15 +60,15 @@ fn put_addresses(f: Fields, fields: &mut [u32])
     requires { ⌜ 34 ≤ length (now fields) ⌝ }
     ensures { λ _. ⌜ now (fields .exit) ≡ putAddresses f (now (fields .entry)) ⌝ }
 {
-    let upper = f.lcdsaddr1;
-    let lower = f.lcdsaddr2;
-    let row = f.lcdsaddr3;
+    let saddr1 = f.lcdsaddr1;
+    let saddr2 = f.lcdsaddr2;
+    let saddr3 = f.lcdsaddr3;
     let tpal = f.tpal;
-    fields[27] = upper.lcdbank;
-    fields[28] = upper.lcdbaseu;
-    fields[29] = lower.lcdbasel;
-    fields[30] = row.offsize;
-    fields[31] = row.pagewidth;
+    fields[27] = saddr1.lcdbank;
+    fields[28] = saddr1.lcdbaseu;
+    fields[29] = saddr2.lcdbasel;
+    fields[30] = saddr3.offsize;
+    fields[31] = saddr3.pagewidth;
     fields[32] = tpal.tpalen;
     fields[33] = tpal.tpalval;
 }
@@ -79,7 +79,7 @@ fn put_fields(f: Fields, fields: &mut [u32]) -> u32
     if fields.len() < 34 {
         return 10;
     }
-    put_timing(f, fields);
+    put_lcdcon1_to_4(f, fields);
     put_lcdcon5(f.lcdcon5, fields);
     put_addresses(f, fields);
     0
