@@ -2,13 +2,13 @@
 -- it left gives the first 34 entries again. Assumes nothing.
 use mathlib.Core.List.{List, [], _∷_}
 use mathlib.Core.Path.{_≡_, refl, sym, ap, _∙_}
-use Prim.Native.Nat.{ℕ, zero, suc, _<_, _≤_}
+use Prim.Native.Nat.{ℕ, _<_, _≤_}
 use native.Mathlib.Nat.{zero-add}
 use native.Mathlib.Omega.{arith}
 use borrow.Author.Tests.{le-ltb, ltb-false}
 use lib.Dec.{ltb}
 use lib.ListN.{length, getD}
-use Rattle.laws.specs.Answers.{accepted, judged, one-accepts, Outcome, leaves, outcomeOn, writes-on, leaves-written}
+use Rattle.laws.specs.Answers.{accepted, judged, one-accepts, Outcome, leaves, writes-on, went-on, leaves-written}
 use Rattle.laws.specs.Booleans.{or-false-right}
 use Rattle.laws.specs.Cases.{_when_, lowest, lowest-zero-none-holds, none-of-one}
 use Rattle.laws.specs.Storing.{stores, entry-stored, length-stores}
@@ -20,13 +20,6 @@ use Rattle.fields.specs.Writing.{write, wordsOf, fieldTooWide}
 use Rattle.entries.specs.Order.{fieldsIn, wordEntries}
 use Rattle.entries.specs.Reading.{putFields, readFieldsOf, readFields}
 use Rattle.entries.specs.Writing.{tooFew, loadFields, putWords, writeFieldsOf, writeFields}
-
--- a call that is done was judged 0, and went on
-went-on : {A : Type 0} (n : ℕ) (a : A) (was : List ℕ) (f : A → Outcome) (left : List ℕ)
-    → outcomeOn (judged n a) was f ≡ leaves 0 left → (n ≡ 0) × (f a ≡ leaves 0 left)
-unfolding outcomeOn judged
-went-on zero a was f left e = (refl, e)
-went-on (suc n) a was f left e = absurd (omega (arith, ap (λ (o : Outcome). o .refusal) e))
 
 -- words in a slice of nine entries are loaded again
 module _ (w : Words) (out : List ℕ) (room : 9 ≤ length out) where

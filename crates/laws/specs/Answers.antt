@@ -179,3 +179,10 @@ pub leaves-on : {A : Type 0} (x : Answer A) (was : List ℕ) (f : A → Outcome)
     → leaves n was ≡ outcomeOn x was f
 unfolding outcomeOn
 leaves-on x was f n e = ap (λ (y : Answer _). outcomeOn y was f) e
+
+-- a call that is done was judged 0, and went on
+pub went-on : {A : Type 0} (n : ℕ) (a : A) (was : List ℕ) (f : A → Outcome) (left : List ℕ)
+    → outcomeOn (judged n a) was f ≡ leaves 0 left → (n ≡ 0) × (f a ≡ leaves 0 left)
+unfolding outcomeOn judged
+went-on zero a was f left e = (refl, e)
+went-on (suc n) a was f left e = absurd (omega (arith, ap (λ (o : Outcome). o .refusal) e))
