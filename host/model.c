@@ -357,19 +357,20 @@ static void view_in(uint32_t *view, const uint32_t *words, uint32_t lcdsaddr1, u
     view[LCDSADDR2] = lcdsaddr2;
 }
 
+/* "10 for a slice short of nine words" comes "before all"; then 1 to `last`. */
+static uint32_t lowest_of_slice(uint32_t last, const uint32_t *words, size_t words_len, const struct memory *memory) {
+    return words_len < MODEL_WORDS ? 10 : lowest(last, &words, 1, memory);
+}
+
 /* ---- the calls on words */
 
 uint32_t model_check(const uint32_t *words, size_t words_len, uint32_t window_start, const uint32_t *video, size_t video_len) {
     struct memory memory = {window_start, video, video_len};
-    if (words_len < MODEL_WORDS)
-        return 10;
-    return lowest(8, &words, 1, &memory);
+    return lowest_of_slice(8, words, words_len, &memory);
 }
 
 uint32_t model_counts(const uint32_t *words, size_t words_len, uint32_t hclk, uint64_t *counts, size_t counts_len) {
-    if (words_len < MODEL_WORDS)
-        return 10;
-    uint32_t number = lowest(7, &words, 1, NULL);
+    uint32_t number = lowest_of_slice(7, words, words_len, NULL);
     if (number != 0)
         return number;
     if (counts_len < 3)
@@ -384,9 +385,7 @@ uint32_t model_draw_pixel(const uint32_t *words, size_t words_len, uint32_t wind
                           const uint16_t *palette, size_t palette_len, uint32_t row, uint32_t column, uint32_t *out,
                           size_t out_len) {
     struct memory memory = {window_start, video, video_len};
-    if (words_len < MODEL_WORDS)
-        return 10;
-    uint32_t number = lowest(9, &words, 1, &memory);
+    uint32_t number = lowest_of_slice(9, words, words_len, &memory);
     if (number != 0)
         return number;
     if (palette_len != 256 || out_len < 1)
@@ -401,9 +400,7 @@ uint32_t model_draw_pixel(const uint32_t *words, size_t words_len, uint32_t wind
 uint32_t model_draw_row(const uint32_t *words, size_t words_len, uint32_t window_start, const uint32_t *video, size_t video_len,
                         const uint16_t *palette, size_t palette_len, uint32_t row, uint32_t *out, size_t out_len) {
     struct memory memory = {window_start, video, video_len};
-    if (words_len < MODEL_WORDS)
-        return 10;
-    uint32_t number = lowest(9, &words, 1, &memory);
+    uint32_t number = lowest_of_slice(9, words, words_len, &memory);
     if (number != 0)
         return number;
     if (palette_len != 256 || out_len < width(words))
@@ -420,9 +417,7 @@ uint32_t model_draw_picture(const uint32_t *words, size_t words_len, uint32_t wi
                             size_t video_len, const uint16_t *palette, size_t palette_len, uint32_t *picture,
                             size_t picture_len) {
     struct memory memory = {window_start, video, video_len};
-    if (words_len < MODEL_WORDS)
-        return 10;
-    uint32_t number = lowest(9, &words, 1, &memory);
+    uint32_t number = lowest_of_slice(9, words, words_len, &memory);
     if (number != 0)
         return number;
     if (palette_len != 256 || picture_len < width(words) * height(words))
@@ -437,10 +432,9 @@ uint32_t model_draw_picture(const uint32_t *words, size_t words_len, uint32_t wi
 
 /* "reading fields only 1"; "Read-only bits are ignored on reading" */
 uint32_t model_read_fields(const uint32_t *words, size_t words_len, uint32_t *fields, size_t fields_len) {
-    if (words_len < MODEL_WORDS)
-        return 10;
-    if (a_reserved_bit_is_set(words))
-        return 1;
+    uint32_t number = lowest_of_slice(1, words, words_len, NULL);
+    if (number != 0)
+        return number;
     if (fields_len < LCD_FIELDS)
         return 10;
     for (int name = 0; name < LCD_FIELDS; name++)
@@ -470,10 +464,9 @@ uint32_t model_write_fields(const uint32_t *fields, size_t fields_len, uint32_t 
 }
 
 uint32_t model_read_sizes(const uint32_t *words, size_t words_len, uint32_t *sizes, size_t sizes_len) {
-    if (words_len < MODEL_WORDS)
-        return 10;
-    if (a_reserved_bit_is_set(words))
-        return 1;
+    uint32_t number = lowest_of_slice(1, words, words_len, NULL);
+    if (number != 0)
+        return number;
     if (sizes_len < LCD_SIZES)
         return 10;
     sizes[LCD_WIDTH] = width(words);
@@ -497,9 +490,7 @@ uint32_t model_read_sizes(const uint32_t *words, size_t words_len, uint32_t *siz
 uint32_t model_start(const uint32_t *words, size_t words_len, uint32_t window_start, const uint32_t *video, size_t video_len,
                      uint32_t *scan, size_t scan_len) {
     struct memory memory = {window_start, video, video_len};
-    if (words_len < MODEL_WORDS)
-        return 10;
-    uint32_t number = lowest(9, &words, 1, &memory);
+    uint32_t number = lowest_of_slice(9, words, words_len, &memory);
     if (number != 0)
         return number;
     if (scan_len < LCD_SCAN_ENTRIES)
