@@ -1,4 +1,4 @@
-/* A small C host: document 01's cases T1 and T10 through the calls of lcd.h. For each case one line says that the library gives
+/* A small C host: document 01's cases T1 and T8 to T10 through the calls of lcd.h. For each case one line says that the library gives
  * what the paper gives; where something differs, the line says what, and the program exits with 1. */
 #include <inttypes.h>
 #include <stdint.h>
@@ -170,10 +170,46 @@ static void t1_viewport(void) {
     puts("T1: a new viewport comes into force with the next frame");
 }
 
-/* ---- T10: T9's panel, 240 by 320 at 16 bits, with memory that just suffices and one word less */
+/* ---- T8 to T10: T9's panel, 240 by 320 at 16 bits; its fields and sizes, and memory that just suffices and one word less */
 
 static const uint32_t t9_words[9] = {0x479, 0x014fc041, 0x0098ef09, 0x9, 0xb09, 0x18000000, 0x12c00, 0xf0, 0};
 static uint32_t video[VIDEO], picture[PIXELS + 1], row[WIDTH];
+
+/* T9's words have the fields of T8, and T8's fields make T9's words. */
+static void t9_fields(void) {
+    static const struct {
+        enum lcd_field field;
+        uint32_t due;
+    } t8[] = {{LCD_HSPW, 9}, {LCD_HBPD, 19}, {LCD_HFPD, 9},  {LCD_VSPW, 1},     {LCD_VBPD, 1},     {LCD_VFPD, 1},
+              {LCD_CLKVAL, 4}, {LCD_HOZVAL, WIDTH - 1}, {LCD_LINEVAL, HEIGHT - 1}, {LCD_BPPMODE, 12}, {LCD_HWSWP, 1}};
+    uint32_t fields[LCD_FIELDS + 1], words[10];
+    prefill(fields, LCD_FIELDS + 1);
+    prefill(words, 10);
+    same("T9, read", lcd_read_fields(t9_words, 9, fields, LCD_FIELDS + 1), 0);
+    for (size_t i = 0; i < sizeof t8 / sizeof *t8; i++)
+        same("T9, field", fields[t8[i].field], t8[i].due);
+    untouched("T9, entry past the fields", fields + LCD_FIELDS, 1);
+    same("T9, write", lcd_write_fields(fields, LCD_FIELDS, words, 10), 0);
+    same("T9, words written", memcmp(words, t9_words, sizeof t9_words), 0);
+    untouched("T9, entry past the words", words + 9, 1);
+    fields[LCD_VSPW] = 64;
+    prefill(words, 10);
+    same("T9, VSPW of seven bits", lcd_write_fields(fields, LCD_FIELDS, words, 10), 12);
+    untouched("T9, word of a refused field", words, 10);
+    puts("T9: the words have the fields of T8, and are written from them");
+}
+
+static void t8_sizes(void) {
+    static const uint32_t due[LCD_SIZES] = {WIDTH, HEIGHT, 16, 10, 10, 20, 10, 280, 2, 2, 2, 326};
+    uint32_t sizes[LCD_SIZES + 1];
+    prefill(sizes, LCD_SIZES + 1);
+    same("T8, sizes", lcd_read_sizes(t9_words, 9, sizes, LCD_SIZES + 1), 0);
+    for (int i = 0; i < LCD_SIZES; i++)
+        same("T8, size", sizes[i], due[i]);
+    same("T8, clocks", (uint64_t)sizes[LCD_LINE_CLOCKS] * sizes[LCD_FRAME_LINES], 91280);
+    untouched("T8, entry past the sizes", sizes + LCD_SIZES, 1);
+    puts("T8: 280 clocks a line, 326 lines a frame");
+}
 
 /* All black but the last pixel, which is white: the last word is read, and its halves in the order that HWSWP, set here, gives. */
 static void t10_suffices(void) {
@@ -207,6 +243,8 @@ int main(void) {
     t1_steps();
     t1_runs();
     t1_viewport();
+    t9_fields();
+    t8_sizes();
     t10_suffices();
     t10_one_short();
     return 0;
