@@ -206,7 +206,7 @@ static void t8_sizes(void) {
     same("T8, sizes", lcd_read_sizes(t9_words, 9, sizes, LCD_SIZES + 1), 0);
     for (int i = 0; i < LCD_SIZES; i++)
         same("T8, size", sizes[i], due[i]);
-    same("T8, clocks", (uint64_t)sizes[LCD_LINE_CLOCKS] * sizes[LCD_FRAME_LINES], 91280);
+    same("T8, clocks", (uint64_t)sizes[LCD_SIZE_LINE] * sizes[LCD_SIZE_FRAME], 91280);
     untouched("T8, entry past the sizes", sizes + LCD_SIZES, 1);
     puts("T8: 280 clocks a line, 326 lines a frame");
 }

@@ -95,20 +95,20 @@ uint32_t lcd_read_fields(const uint32_t *words, size_t words_len, uint32_t *fiel
  * Refuses 10 (`fields` has fewer than 34 entries, or `words` fewer than nine), then 12. */
 uint32_t lcd_write_fields(const uint32_t *fields, size_t fields_len, uint32_t *words, size_t words_len);
 
-/* What the fields say of the panel, each a number from 1 on but for LCD_STORED_BITS. */
+/* What the fields say of the panel, each a number from 1 on but for the stored bits. */
 enum lcd_size {
-    LCD_WIDTH,            /* pixels in a row, W */
-    LCD_HEIGHT,           /* rows, H */
-    LCD_STORED_BITS,      /* stored bits a pixel, S; 0 where BPPMODE is outside 8..13 */
-    LCD_TICKS,            /* HCLK ticks a clock */
-    LCD_HSYNC_CLOCKS,     /* clocks of a line: sync, back porch, (W,) front porch, and all */
-    LCD_HBACK_CLOCKS,
-    LCD_HFRONT_CLOCKS,
-    LCD_LINE_CLOCKS,
-    LCD_VSYNC_LINES,      /* lines of a frame: sync, back porch, (H,) front porch, and all */
-    LCD_VBACK_LINES,
-    LCD_VFRONT_LINES,
-    LCD_FRAME_LINES,
+    LCD_SIZE_WIDTH,       /* pixels in a row, W */
+    LCD_SIZE_HEIGHT,      /* rows, H */
+    LCD_SIZE_STORED_BITS, /* stored bits a pixel, S; 0 where BPPMODE is outside 8..13 */
+    LCD_SIZE_TICKS,       /* HCLK ticks a clock */
+    LCD_SIZE_HSYNC,       /* clocks of a line: sync, back porch, (W,) front porch, and all */
+    LCD_SIZE_HBACK,
+    LCD_SIZE_HFRONT,
+    LCD_SIZE_LINE,
+    LCD_SIZE_VSYNC,       /* lines of a frame: sync, back porch, (H,) front porch, and all */
+    LCD_SIZE_VBACK,
+    LCD_SIZE_VFRONT,
+    LCD_SIZE_FRAME,
     LCD_SIZES
 };
 

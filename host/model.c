@@ -469,18 +469,18 @@ uint32_t model_read_sizes(const uint32_t *words, size_t words_len, uint32_t *siz
         return number;
     if (sizes_len < LCD_SIZES)
         return 10;
-    sizes[LCD_WIDTH] = width(words);
-    sizes[LCD_HEIGHT] = height(words);
-    sizes[LCD_STORED_BITS] = stored_bits(words);
-    sizes[LCD_TICKS] = 2 * (field(words, LCD_CLKVAL) + 1);
-    sizes[LCD_HSYNC_CLOCKS] = field(words, LCD_HSPW) + 1;
-    sizes[LCD_HBACK_CLOCKS] = field(words, LCD_HBPD) + 1;
-    sizes[LCD_HFRONT_CLOCKS] = field(words, LCD_HFPD) + 1;
-    sizes[LCD_LINE_CLOCKS] = line_length(words);
-    sizes[LCD_VSYNC_LINES] = field(words, LCD_VSPW) + 1;
-    sizes[LCD_VBACK_LINES] = field(words, LCD_VBPD) + 1;
-    sizes[LCD_VFRONT_LINES] = field(words, LCD_VFPD) + 1;
-    sizes[LCD_FRAME_LINES] = frame_height(words);
+    sizes[LCD_SIZE_WIDTH] = width(words);
+    sizes[LCD_SIZE_HEIGHT] = height(words);
+    sizes[LCD_SIZE_STORED_BITS] = stored_bits(words);
+    sizes[LCD_SIZE_TICKS] = 2 * (field(words, LCD_CLKVAL) + 1);
+    sizes[LCD_SIZE_HSYNC] = field(words, LCD_HSPW) + 1;
+    sizes[LCD_SIZE_HBACK] = field(words, LCD_HBPD) + 1;
+    sizes[LCD_SIZE_HFRONT] = field(words, LCD_HFPD) + 1;
+    sizes[LCD_SIZE_LINE] = line_length(words);
+    sizes[LCD_SIZE_VSYNC] = field(words, LCD_VSPW) + 1;
+    sizes[LCD_SIZE_VBACK] = field(words, LCD_VBPD) + 1;
+    sizes[LCD_SIZE_VFRONT] = field(words, LCD_VFPD) + 1;
+    sizes[LCD_SIZE_FRAME] = frame_height(words);
     return 0;
 }
 

@@ -28,15 +28,15 @@ static const struct field_text texts[LCD_FIELDS] = {
     [LCD_PNRMODE] = {"PNRMODE", -1, NULL, {"STN, 4-bit dual scan", "STN, 4-bit single scan", "STN, 8-bit single scan", "TFT"}},
     [LCD_BPPMODE] = {"BPPMODE", -1, NULL, {0}},
     [LCD_ENVID] = {"ENVID", -1, NULL, {"video off", "video on"}},
-    [LCD_VBPD] = {"VBPD", LCD_VBACK_LINES, "lines of back porch", {0}},
-    [LCD_LINEVAL] = {"LINEVAL", LCD_HEIGHT, "rows, the height", {0}},
-    [LCD_VFPD] = {"VFPD", LCD_VFRONT_LINES, "lines of front porch", {0}},
-    [LCD_VSPW] = {"VSPW", LCD_VSYNC_LINES, "lines of VSYNC", {0}},
-    [LCD_HBPD] = {"HBPD", LCD_HBACK_CLOCKS, "clocks of back porch", {0}},
-    [LCD_HOZVAL] = {"HOZVAL", LCD_WIDTH, "pixels a row, the width", {0}},
-    [LCD_HFPD] = {"HFPD", LCD_HFRONT_CLOCKS, "clocks of front porch", {0}},
+    [LCD_VBPD] = {"VBPD", LCD_SIZE_VBACK, "lines of back porch", {0}},
+    [LCD_LINEVAL] = {"LINEVAL", LCD_SIZE_HEIGHT, "rows, the height", {0}},
+    [LCD_VFPD] = {"VFPD", LCD_SIZE_VFRONT, "lines of front porch", {0}},
+    [LCD_VSPW] = {"VSPW", LCD_SIZE_VSYNC, "lines of VSYNC", {0}},
+    [LCD_HBPD] = {"HBPD", LCD_SIZE_HBACK, "clocks of back porch", {0}},
+    [LCD_HOZVAL] = {"HOZVAL", LCD_SIZE_WIDTH, "pixels a row, the width", {0}},
+    [LCD_HFPD] = {"HFPD", LCD_SIZE_HFRONT, "clocks of front porch", {0}},
     [LCD_MVAL] = {"MVAL", -1, NULL, {0}},
-    [LCD_HSPW] = {"HSPW", LCD_HSYNC_CLOCKS, "clocks of HSYNC", {0}},
+    [LCD_HSPW] = {"HSPW", LCD_SIZE_HSYNC, "clocks of HSYNC", {0}},
     [LCD_BPP24BL] = {"BPP24BL", -1, NULL, {"24 bits lie in bits 23..0 of the word", "24 bits lie in bits 31..8 of the word"}},
     [LCD_FRM565] = {"FRM565", -1, NULL, {"16 bits are 5:5:5:1", "16 bits are 5:6:5"}},
     [LCD_INVVCLK] = {"INVVCLK", -1, NULL, {"data taken at VCLK's falling edge", "data taken at VCLK's rising edge"}},
@@ -214,10 +214,10 @@ static void print_special(const struct readings *r, int field) {
     uint32_t n = r->fields[field];
     switch (field) {
     case LCD_CLKVAL:
-        printf("VCLK is HCLK / %" PRIu32 ": ", r->sizes[LCD_TICKS]);
-        print_hertz(r->dump->hclk, r->sizes[LCD_TICKS]);
+        printf("VCLK is HCLK / %" PRIu32 ": ", r->sizes[LCD_SIZE_TICKS]);
+        print_hertz(r->dump->hclk, r->sizes[LCD_SIZE_TICKS]);
         break;
-    case LCD_BPPMODE: print_bits_a_pixel(r->sizes[LCD_STORED_BITS]); break;
+    case LCD_BPPMODE: print_bits_a_pixel(r->sizes[LCD_SIZE_STORED_BITS]); break;
     case LCD_MVAL: printf("VM's rate (STN only)"); break;
     case LCD_LCDBANK: printf("A30..22 of the frame buffer: 0x%08" PRIx32, n << 22); break;
     case LCD_LCDBASEU: printf("A21..1 of the first row: bank + 0x%06" PRIx32, n << 1); break;
@@ -293,19 +293,19 @@ static int print_register(const struct readings *r, const struct fault *f, int r
 /* What the words say together: size, mode, the parts of line and frame, rates. */
 static void print_panel(const struct readings *r) {
     const uint32_t *s = r->sizes;
-    uint64_t line = (uint64_t)s[LCD_TICKS] * s[LCD_LINE_CLOCKS];
-    printf("panel       %" PRIu32 " by %" PRIu32 " pixels, ", s[LCD_WIDTH], s[LCD_HEIGHT]);
-    print_bits_a_pixel(s[LCD_STORED_BITS]);
+    uint64_t line = (uint64_t)s[LCD_SIZE_TICKS] * s[LCD_SIZE_LINE];
+    printf("panel       %" PRIu32 " by %" PRIu32 " pixels, ", s[LCD_SIZE_WIDTH], s[LCD_SIZE_HEIGHT]);
+    print_bits_a_pixel(s[LCD_SIZE_STORED_BITS]);
     printf("\nline        %" PRIu32 " clocks: sync %" PRIu32 ", back porch %" PRIu32 ", active %" PRIu32 ", front porch %" PRIu32
-           "\n", s[LCD_LINE_CLOCKS], s[LCD_HSYNC_CLOCKS], s[LCD_HBACK_CLOCKS], s[LCD_WIDTH], s[LCD_HFRONT_CLOCKS]);
+           "\n", s[LCD_SIZE_LINE], s[LCD_SIZE_HSYNC], s[LCD_SIZE_HBACK], s[LCD_SIZE_WIDTH], s[LCD_SIZE_HFRONT]);
     printf("frame       %" PRIu32 " lines: sync %" PRIu32 ", back porch %" PRIu32 ", active %" PRIu32 ", front porch %" PRIu32 "\n",
-           s[LCD_FRAME_LINES], s[LCD_VSYNC_LINES], s[LCD_VBACK_LINES], s[LCD_HEIGHT], s[LCD_VFRONT_LINES]);
+           s[LCD_SIZE_FRAME], s[LCD_SIZE_VSYNC], s[LCD_SIZE_VBACK], s[LCD_SIZE_HEIGHT], s[LCD_SIZE_VFRONT]);
     printf("HCLK        %" PRIu32 " Hz\nVCLK        ", r->dump->hclk);
-    print_hertz(r->dump->hclk, s[LCD_TICKS]);
+    print_hertz(r->dump->hclk, s[LCD_SIZE_TICKS]);
     printf("\nline rate   ");
     print_hertz(r->dump->hclk, line);
     printf("\nframe rate  ");
-    print_hertz(r->dump->hclk, line * s[LCD_FRAME_LINES]);
+    print_hertz(r->dump->hclk, line * s[LCD_SIZE_FRAME]);
     putchar('\n');
 }
 

@@ -135,7 +135,7 @@ static struct picture draw(const struct dump *d, uint32_t *refusal) {
     *refusal = lcd_read_sizes(d->words, 9, sizes, LCD_SIZES);
     if (*refusal)
         return p;
-    p = picture_new(sizes[LCD_WIDTH], sizes[LCD_HEIGHT]);
+    p = picture_new(sizes[LCD_SIZE_WIDTH], sizes[LCD_SIZE_HEIGHT]);
     *refusal = lcd_draw_picture(d->words, 9, d->window_start, d->video, d->video_len, d->palette, 256, p.colours,
                                 (size_t)p.width * p.height);
     return p;
