@@ -430,13 +430,17 @@ uint32_t model_draw_picture(const uint32_t *words, size_t words_len, uint32_t wi
 
 /* ---- fields and sizes */
 
-/* "reading fields only 1"; "Read-only bits are ignored on reading" */
-uint32_t model_read_fields(const uint32_t *words, size_t words_len, uint32_t *fields, size_t fields_len) {
+/* "reading fields only 1"; then 10: "another lent slice too short for its call" */
+static uint32_t refusal_of_reading(const uint32_t *words, size_t words_len, size_t len, size_t needed) {
     uint32_t number = lowest_of_slice(1, words, words_len, NULL);
+    return number == 0 && len < needed ? 10 : number;
+}
+
+/* "Read-only bits are ignored on reading" */
+uint32_t model_read_fields(const uint32_t *words, size_t words_len, uint32_t *fields, size_t fields_len) {
+    uint32_t number = refusal_of_reading(words, words_len, fields_len, LCD_FIELDS);
     if (number != 0)
         return number;
-    if (fields_len < LCD_FIELDS)
-        return 10;
     for (int name = 0; name < LCD_FIELDS; name++)
         fields[name] = field(words, name);
     return 0;
@@ -464,11 +468,9 @@ uint32_t model_write_fields(const uint32_t *fields, size_t fields_len, uint32_t 
 }
 
 uint32_t model_read_sizes(const uint32_t *words, size_t words_len, uint32_t *sizes, size_t sizes_len) {
-    uint32_t number = lowest_of_slice(1, words, words_len, NULL);
+    uint32_t number = refusal_of_reading(words, words_len, sizes_len, LCD_SIZES);
     if (number != 0)
         return number;
-    if (sizes_len < LCD_SIZES)
-        return 10;
     sizes[LCD_SIZE_WIDTH] = width(words);
     sizes[LCD_SIZE_HEIGHT] = height(words);
     sizes[LCD_SIZE_STORED_BITS] = stored_bits(words);

@@ -26,12 +26,13 @@ static void end(int number) {
     raise(number);
 }
 
-/* A file too large is an error like any other. */
+/* A file too large is an error like any other; a signal that the caller ignores stays ignored. */
 static void watch_signals(void) {
+    static const int ending[] = {SIGINT, SIGTERM, SIGHUP};
     signal(SIGXFSZ, SIG_IGN);
-    signal(SIGINT, end);
-    signal(SIGTERM, end);
-    signal(SIGHUP, end);
+    for (size_t i = 0; i < sizeof ending / sizeof *ending; i++)
+        if (signal(ending[i], end) == SIG_IGN)
+            signal(ending[i], SIG_IGN);
 }
 
 void fail(const char *what, const char *why) {

@@ -120,20 +120,26 @@ static uint32_t distance(uint32_t a, uint32_t b) {
 
 /* The palette's entry nearest to a colour. */
 static uint32_t nearest(uint32_t bits, uint32_t colour) {
-    uint32_t best = 0;
-    for (uint32_t i = 1; i < 1u << bits; i++)
-        if (distance(palette_colour(bits, i), colour) < distance(palette_colour(bits, best), colour))
-            best = i;
+    uint32_t best = 0, least = distance(palette_colour(bits, 0), colour);
+    for (uint32_t i = 1; i < 1u << bits; i++) {
+        uint32_t away = distance(palette_colour(bits, i), colour);
+        if (away < least)
+            least = away, best = i;
+    }
     return best;
+}
+
+/* What is stored for a colour: the colour itself, its 16 bits, or its entry. */
+static uint32_t number_for(uint32_t bits, uint32_t colour) {
+    return bits == 24 ? colour : bits == 16 ? as_565(colour) : nearest(bits, colour);
 }
 
 /* ---- the frame buffer, byte by byte, low byte of a number first */
 
 static void put_byte(struct dump *d, size_t at, uint32_t byte) { d->video[at / 4] |= byte << 8 * (at % 4); }
 
-/* Pixel number i of the card, stored in its bytes; pixels smaller than a byte fill it from its highest bits down. */
-static void put_pixel(struct dump *d, size_t i, uint32_t bits, uint32_t colour) {
-    uint32_t number = bits == 24 ? colour : bits == 16 ? as_565(colour) : nearest(bits, colour);
+/* The number of pixel i of the card, stored in its bytes; pixels smaller than a byte fill it from its highest bits down. */
+static void put_pixel(struct dump *d, size_t i, uint32_t bits, uint32_t number) {
     uint32_t bytes = bits == 24 ? 4 : bits / 8;
     if (bits < 8)
         put_byte(d, i * bits / 8, number << (8 - bits - i * bits % 8));
@@ -141,12 +147,17 @@ static void put_pixel(struct dump *d, size_t i, uint32_t bits, uint32_t colour) 
         put_byte(d, i * bytes + k, number >> 8 * k & 0xff);
 }
 
+/* A number is looked up where the colour changes, which is seldom. */
 static void fill_video(struct dump *d, uint32_t width, uint32_t height, uint32_t bits) {
     struct picture card = picture_new(width, height);
+    uint32_t number = 0;
     card_draw(&card, bits);
     memset(d->video, 0, sizeof *d->video * d->video_len);
-    for (size_t i = 0; i < (size_t)width * height; i++)
-        put_pixel(d, i, bits, card.colours[i]);
+    for (size_t i = 0; i < (size_t)width * height; i++) {
+        if (i == 0 || card.colours[i] != card.colours[i - 1])
+            number = number_for(bits, card.colours[i]);
+        put_pixel(d, i, bits, number);
+    }
     picture_free(&card);
 }
 

@@ -8,6 +8,7 @@ use Rattle.laws.specs.Cases.{Case, _when_, lowest}
 use Rattle.laws.specs.Storing.{stores}
 use Rattle.drawing.specs.Colour.{colour}
 use Rattle.drawing.specs.Drawing.{tooShort, pixelCases}
+use Rattle.entries.specs.Order.{wordEntries}
 use Rattle.registers.specs.Loading.{inOrder, load}
 use Rattle.registers.specs.declared.Words.{Words}
 use Rattle.signals.specs.declared.clock.Clock.{Clock}
@@ -59,20 +60,7 @@ stateOf scan =
 -- its entries, in the same order
 abbrev pub entriesOf : State → List ℕ
 entriesOf s =
-    s .words .lcdcon1
-    ∷ s .words .lcdcon2
-    ∷ s .words .lcdcon3
-    ∷ s .words .lcdcon4
-    ∷ s .words .lcdcon5
-    ∷ s .words .lcdsaddr1
-    ∷ s .words .lcdsaddr2
-    ∷ s .words .lcdsaddr3
-    ∷ s .words .tpal
-    ∷ s .«window_start»
-    ∷ s .pending .lcdsaddr1
-    ∷ s .pending .lcdsaddr2
-    ∷ s .position
-    ∷ []
+    wordEntries (s .words) ++ (s .«window_start» ∷ s .pending .lcdsaddr1 ∷ s .pending .lcdsaddr2 ∷ s .position ∷ [])
 
 -- a slice in which it is stored; further entries stay
 unfoldable pub putState : State → List ℕ → List ℕ
