@@ -7,7 +7,7 @@ SANITIZE = -g -fsanitize=address,undefined -fno-sanitize-recover=all
 archive = target/staticlib/liblcd.a
 lcd_crates := lcd $(shell sed -n 's/^lcd://p' crates.txt)
 lcd_sources := crates.txt $(shell find $(lcd_crates:%=crates/%) -name '*.rt' -o -name '*.antt')
-shot := $(patsubst host/%.c,target/host/%.o,$(wildcard host/shot/*.c))
+shot := $(patsubst host/%.c,target/host/%.o,$(wildcard host/shot/*.c) host/lcd_refusals.c)
 programs = $(addprefix target/host/,lcdshot example benchmark differential differential-sanitized)
 
 all: $(programs)
@@ -15,6 +15,7 @@ all: $(programs)
 # `rt` proves the crates first, those that it has not proved yet; its many lines are shown where it fails
 $(archive): $(lcd_sources)
 	@mkdir -p target
+	@command -v rt > /dev/null || { echo "the Rattle kit (rt) is missing; it proves and builds $@" >&2; exit 2; }
 	@echo "proving and building $@ (some minutes where nothing is proved yet)" >&2
 	@rt staticlib lcd > target/staticlib.log 2>&1 || { cat target/staticlib.log >&2; exit 1; }
 	@touch $@
@@ -26,8 +27,14 @@ target/host/%.o: host/%.c
 # the plain loops of the benchmark are measured at -O3
 target/host/benchmark.o: CFLAGS = -std=c11 -O3 -Wall -Wextra -Werror
 
+# linked beside and renamed: whoever runs the tool meanwhile has the old one or the new one
 target/host/lcdshot: $(shot) $(archive)
-	$(CC) -o $@ $(shot) $(archive) -lpng
+	$(CC) -o $@.new $(shot) $(archive) -lpng
+	@mv $@.new $@
+
+target/host/lcdshot-sanitized: $(wildcard host/shot/*.[ch]) host/lcd_refusals.c host/lcd.h $(archive)
+	@mkdir -p $(@D)
+	$(CC) $(CFLAGS) $(SANITIZE) -o $@ $(filter %.c,$^) $(archive) -lpng
 
 target/host/example target/host/benchmark: target/host/%: target/host/%.o $(archive)
 	$(CC) -o $@ $< $(archive)

@@ -8,23 +8,7 @@
  * scan          the state of a scan, as 18 entries (see `lcd_scan_entry`); what follows stays
  * *_len         how many entries (not bytes) the slice before it has
  *
- * Each call returns 0 where it is done. Else it returns the number of the refusal, and nothing lent is changed:
- *
- *    1  a reserved bit is set
- *    2  PNRMODE is not 3
- *    3  BPPMODE is outside 8..13
- *    4  the swap bits aren't legal for the mode
- *    5  16 x PAGEWIDTH differs from W x S (width x stored bits), or LCDBASEU, PAGEWIDTH or OFFSIZE is odd
- *    6  LCDBASEL differs from LCDBASEU + (PAGEWIDTH + OFFSIZE) x H, modulo 2^21
- *    7  LCDBASEU + (H - 1) x (PAGEWIDTH + OFFSIZE) + PAGEWIDTH exceeds 2^21
- *    8  window_start isn't a multiple of 4, or a word of some row lies outside `video`
- *    9  ENVID is 0
- *   10  a slice is too short for the call, or the palette has not exactly 256 entries
- *   11  the row or the column is outside the panel
- *   12  a field is too wide
- *   13  LCDBANK of the pending viewport, or of the new one, differs from that in force
- *   15  the position is not below the frame's clocks
- *
+ * Each call returns 0 where it is done. Else it returns the number of the refusal (`LCD_REFUSALS`), and nothing lent is changed.
  * The lowest number that applies is given; only 10 for fewer than nine words, or for a scan that is read and has fewer than 18
  * entries, comes before all.
  *
@@ -39,6 +23,37 @@
 #ifdef __cplusplus
 extern "C" {
 #endif
+
+/* The version of this interface: the first number grows where a call changes, the second where something is added. */
+#define LCD_VERSION_MAJOR 1
+#define LCD_VERSION_MINOR 1
+#define LCD_VERSION "1.1"
+
+/* How many words and how many palette entries there are. */
+enum { LCD_REGISTERS = 9, LCD_PALETTE_ENTRIES = 256 };
+
+/* The numbers of refusal, each with its condition: R(number, text) for each. W and H are width and height, S the stored bits a
+ * pixel. 14 is given by programs, for their input. */
+#define LCD_REFUSALS(R)                                                                                                            \
+    R(1, "a reserved bit is set")                                                                                                  \
+    R(2, "PNRMODE is not 3, TFT")                                                                                                  \
+    R(3, "BPPMODE is outside 8..13")                                                                                               \
+    R(4, "BSWP or HWSWP is set where the mode doesn't allow it")                                                                   \
+    R(5, "a row in memory doesn't fit the width: 16 x PAGEWIDTH differs from W x S, or LCDBASEU, PAGEWIDTH or OFFSIZE is odd")     \
+    R(6, "LCDBASEL isn't the picture's end: LCDBASEU + (PAGEWIDTH + OFFSIZE) x H, modulo 2^21")                                    \
+    R(7, "the picture runs past its bank: LCDBASEU + (H - 1) x (PAGEWIDTH + OFFSIZE) + PAGEWIDTH exceeds 2^21")                    \
+    R(8, "the picture doesn't lie whole in the video memory given, or the memory's start is no multiple of 4")                     \
+    R(9, "video is off: ENVID is 0")                                                                                               \
+    R(10, "a slice is too short for its call, or the palette has not exactly 256 entries")                                         \
+    R(11, "the row or the column is outside the panel")                                                                            \
+    R(12, "a number is too wide for its field")                                                                                    \
+    R(13, "LCDBANK of the pending viewport, or of the new one, differs from that in force")                                        \
+    R(14, "the input has under 556 bytes, or its video memory is no multiple of 4 bytes, or more than the program takes")         \
+    R(15, "the position is not below the frame's clocks")
+
+/* The text of a number of refusal; also of 0 and of numbers that are none, so that it can always be printed. In lcd_refusals.c, which
+ * is compiled beside the program; the archive does not have it. */
+const char *lcd_refusal_text(uint32_t number);
 
 /* Whether the words are good and every word of every row lies in the lent memory.
  * Refuses 10 (fewer than nine words), then 1 to 8. It writes nothing. */

@@ -2,21 +2,29 @@
 #ifndef DUMP_H
 #define DUMP_H
 
+#include <stdbool.h>
 #include <stddef.h>
 #include <stdint.h>
+#include "../lcd.h"
+#include "files.h"
 
 struct dump {
-    uint32_t words[9], hclk, window_start;
-    uint16_t palette[256];
+    uint32_t words[LCD_REGISTERS], hclk, window_start;
+    uint16_t palette[LCD_PALETTE_ENTRIES];
     uint32_t *video;
     size_t video_len;
+    enum { FROM_FILE, FROM_WORDS, WORDS_ALONE } source; /* a dump; words with a memory; words without one, so none is judged */
 };
 
-/* Reads a dump from a file, or from standard input where the path is "-". Returns 0, or 14 where the file has under 556 bytes or a
- * tail that is no multiple of 4; `bytes` is then the file's length. A file that can't be read ends the program. */
-uint32_t dump_read(struct dump *d, const char *path, size_t *bytes);
+/* Takes a dump apart. Returns 0, or 14 where it has under 556 bytes or a tail that is no multiple of 4. */
+uint32_t dump_take(struct dump *d, const struct bytes *b);
 
-/* Writes a dump, beside the file first. A file that can't be written ends the program. */
+/* Takes a memory of 4 bytes a word, low byte first. Returns false where its length is no multiple of 4. */
+bool dump_take_memory(struct dump *d, const struct bytes *b);
+
+/* Takes 256 palette entries, low byte first, each in the first two of `step` bytes. Returns false where the length is another. */
+bool dump_take_palette(struct dump *d, const struct bytes *b, size_t step);
+
 void dump_write(const struct dump *d, const char *path);
 
 void dump_free(struct dump *d);

@@ -1,218 +1,206 @@
-/* lcdshot: the picture of a whole panel from a dump, an account of its registers, and a comparison with a golden picture (document
- * 01, "The bench", for the dump and the line of counts). It draws with the proved library and adds files and words only.
- * It exits with 0; with 1 where the dump is refused or the pictures differ; with 2 where it can't do what it is asked. */
+/* lcdshot: the picture of a whole panel from a dump or from nine words, an account of its registers, and comparisons with a golden
+ * picture or another dump (document 01, "The bench", for the dump and the line of counts). It draws with the proved library and adds
+ * files and words only. It exits with 0; with 1 where a dump is refused or something differs; with 2 where it can't do what it is
+ * asked. */
 #include <inttypes.h>
-#include <stdbool.h>
 #include <stdio.h>
 #include <stdlib.h>
 #include <string.h>
-#include "../lcd.h"
 #include "account.h"
-#include "dump.h"
+#include "against.h"
 #include "files.h"
-#include "picture.h"
-#include "refusals.h"
+#include "json.h"
+#include "options.h"
+#include "several.h"
+#include "shot.h"
 #include "testcard.h"
-
-static const char help[] =
-    "usage: lcdshot DUMP [-o SCREEN.png] [--registers] [--compare GOLDEN.png [--differences DIFF.png]]\n"
-    "       lcdshot --testcard WIDTH HEIGHT BPP -o CARD.dump\n"
-    "\n"
-    "Shows what the LCD controller of an S3C2410 or S3C2440 shows. A DUMP (- for standard input) is LCDCON1 to LCDCON5,\n"
-    "LCDSADDR1 to LCDSADDR3, TPAL, HCLK in Hz and the byte address of the first video word, 4 bytes each, low byte first;\n"
-    "256 palette entries of 2 bytes; then the video memory. The first line printed is the frame's clocks, its HCLK ticks\n"
-    "and its rate in millihertz, or 'refused N'.\n"
-    "\n"
-    "  -o FILE               write the picture as a PNG (with --testcard: the dump)\n"
-    "  --registers           print every field with its meaning, and mark what a refusal is about\n"
-    "  --compare GOLDEN.png  say how many pixels differ from this picture and where the first lies\n"
-    "  --differences FILE    with --compare: where pixels differ, write a picture of them, white on the dimmed screen\n"
-    "  --testcard W H BPP    make the dump of a test card for a panel of W by H pixels of 1, 2, 4, 8, 16 or 24 bits\n"
-    "  --help                print this\n"
-    "\n"
-    "Exit status: 0 done, 1 refused or different, 2 an error in the call or with a file.\n";
-
-struct options {
-    const char *dump, *output, *golden, *differences;
-    const char *card[3];
-    bool registers;
-};
-
-/* ---- the options */
-
-static _Noreturn void misuse(const char *what, const char *why) {
-    fprintf(stderr, "lcdshot: %s: %s; see lcdshot --help\n", what, why);
-    exit(2);
-}
-
-/* The arguments of the option at *i, which are left behind. */
-static void take(int argc, char **argv, int *i, int count, const char **to) {
-    if (argc - *i <= count)
-        misuse(argv[*i], count == 1 ? "a file is missing" : "width, height and bits a pixel are missing");
-    for (int k = 0; k < count; k++)
-        to[k] = argv[++*i];
-}
-
-static void read_option(struct options *o, int argc, char **argv, int *i) {
-    const char *a = argv[*i];
-    if (!strcmp(a, "-o"))
-        take(argc, argv, i, 1, &o->output);
-    else if (!strcmp(a, "--compare"))
-        take(argc, argv, i, 1, &o->golden);
-    else if (!strcmp(a, "--differences"))
-        take(argc, argv, i, 1, &o->differences);
-    else if (!strcmp(a, "--testcard"))
-        take(argc, argv, i, 3, o->card);
-    else if (!strcmp(a, "--registers"))
-        o->registers = true;
-    else if (a[0] == '-' && a[1])
-        misuse(a, "no such option");
-    else if (o->dump)
-        misuse(a, "one dump at a time");
-    else
-        o->dump = a;
-}
-
-static void check_options(const struct options *o) {
-    if (o->card[0] && (o->dump || o->golden || o->differences || o->registers))
-        misuse("--testcard", "takes -o alone");
-    if (o->card[0] && !o->output)
-        misuse("--testcard", "-o and a file are missing");
-    if (!o->card[0] && !o->dump)
-        misuse("DUMP", "missing");
-    if (o->differences && !o->golden)
-        misuse("--differences", "--compare is missing");
-}
-
-static struct options read_options(int argc, char **argv) {
-    struct options o = {0};
-    for (int i = 1; i < argc; i++) {
-        if (!strcmp(argv[i], "--help")) {
-            fputs(help, stdout);
-            exit(0);
-        }
-        read_option(&o, argc, argv, &i);
-    }
-    check_options(&o);
-    return o;
-}
 
 /* ---- a test card */
 
-static uint32_t number(const char *text) {
-    char *end;
-    unsigned long n = strtoul(text, &end, 10);
-    if (*text < '0' || *text > '9' || *end || n > UINT32_MAX)
-        misuse(text, "not a number");
-    return n;
-}
-
-static void print_refusal(uint32_t n) { printf("refused %" PRIu32 "\n%s\n", n, condition(n)); }
-
 static int make_card(const struct options *o) {
-    uint32_t width = number(o->card[0]), height = number(o->card[1]), bits = number(o->card[2]), refusal;
+    static const char *const names[3] = {"width", "height", "BPP"};
+    uint32_t numbers[3];
+    char why[CARD_FAULT];
     struct dump d;
-    if (!testcard_mode(bits))
-        misuse(o->card[2], "no mode; 1, 2, 4, 8, 16 and 24 bits a pixel are");
-    refusal = testcard_make(&d, width, height, bits);
-    if (refusal) {
-        print_refusal(refusal);
-        if (refusal == 5)
-            printf("with %" PRIu32 " for BPP the width is a multiple of %" PRIu32 "\n", bits, bits == 24 ? 1 : 32 / bits);
-    } else {
-        dump_write(&d, o->output);
-    }
+    for (int i = 0; i < 3; i++)
+        numbers[i] = decimal_of("--testcard", names[i], o->card[i], UINT32_MAX);
+    if (!testcard_make(&d, numbers[0], numbers[1], numbers[2], why))
+        misuse("--testcard", why);
+    dump_write(&d, o->output);
+    say("%" PRIu32 " by %" PRIu32 " at %" PRIu32 " bit%s, %s\n", numbers[0], numbers[1], numbers[2], numbers[2] == 1 ? "" : "s",
+        testcard_shows(numbers[2]));
     dump_free(&d);
-    return refusal != 0;
+    return 0;
 }
 
-/* ---- a screen */
+/* ---- words without a board */
 
-/* The picture of a dump; `refusal` is 0, or the number of the refusal, and then there is none. */
-static struct picture draw(const struct dump *d, uint32_t *refusal) {
-    uint32_t sizes[LCD_SIZES];
-    struct picture p = {0, 0, NULL};
-    *refusal = lcd_read_sizes(d->words, 9, sizes, LCD_SIZES);
-    if (*refusal)
-        return p;
-    p = picture_new(sizes[LCD_SIZE_WIDTH], sizes[LCD_SIZE_HEIGHT]);
-    *refusal = lcd_draw_picture(d->words, 9, d->window_start, d->video, d->video_len, d->palette, 256, p.colours,
-                                (size_t)p.width * p.height);
-    return p;
+static void take_memory(struct dump *d, const struct options *o) {
+    struct bytes b = file_need(o->memory);
+    char why[80];
+    snprintf(why, sizeof why, "%zu bytes, no multiple of 4", b.length);
+    if (!dump_take_memory(d, &b))
+        fail(o->memory, why);
+    free(b.at);
 }
 
-static void print_counts(const struct dump *d) {
-    uint64_t counts[3] = {0};
-    lcd_counts(d->words, 9, d->hclk, counts, 3);
-    printf("clocks %" PRIu64 " hclk %" PRIu64 " mhz %" PRIu64 "\n", counts[0], counts[1], counts[2]);
+/* At fewer than 16 bits the colours come from the palette, so it can't be left out. */
+static void take_palette(struct dump *d, const struct options *o) {
+    uint32_t step = o->palette_bytes ? decimal_of("--palette-bytes", "the number", o->palette_bytes, 4) : 2;
+    struct bytes b = file_need(o->palette);
+    char why[120];
+    if (step != 2 && step != 4)
+        misuse("--palette-bytes", "2 or 4");
+    snprintf(why, sizeof why, "%zu bytes; %d entries of %" PRIu32 " bytes are %" PRIu32 " (--palette-bytes says how many an entry has)",
+             b.length, LCD_PALETTE_ENTRIES, step, step * LCD_PALETTE_ENTRIES);
+    if (!dump_take_palette(d, &b, step))
+        fail(o->palette, why);
+    free(b.at);
 }
 
-/* Says whether the picture is the golden one: 0 where it is. */
-static int compare(const struct picture *p, const struct options *o) {
-    struct picture golden = picture_read(o->golden), differences;
-    size_t differ, first = 0, all = (size_t)p->width * p->height;
-    if (golden.width != p->width || golden.height != p->height) {
-        printf("differs in size: golden %" PRIu32 " by %" PRIu32 ", here %" PRIu32 " by %" PRIu32 "\n", golden.width, golden.height,
-               p->width, p->height);
-        picture_free(&golden);
-        return 1;
+static void need_palette(const struct shot *s) {
+    uint32_t stored = s->readings.sizes[LCD_SIZE_STORED_BITS];
+    if (stored >= 1 && stored <= 8 && !s->readings.fields[LCD_TPALEN])
+        misuse("--palette", "missing; in this mode the colours come from the palette");
+}
+
+static void take_words(struct shot *s, const struct options *o) {
+    struct dump *d = &s->dump;
+    s->name = "words";
+    for (int i = 0; i < LCD_REGISTERS; i++)
+        d->words[i] = hexadecimal_of("--words", register_names[i], o->words[i]);
+    d->hclk = o->hclk ? decimal_of("--hclk", "HCLK", o->hclk, UINT32_MAX) : 0;
+    d->source = o->memory ? FROM_WORDS : WORDS_ALONE;
+    if (o->memory) {
+        d->window_start = hexadecimal_of("--start", "the address", o->start);
+        take_memory(d, o);
     }
-    differ = picture_compare(&golden, p, &first);
-    if (!differ)
-        printf("equal: %zu pixels\n", all);
+    if (o->palette)
+        take_palette(d, o);
+    shot_judge(s, o->registers || o->json);
+    if (o->memory && !o->palette)
+        need_palette(s);
+}
+
+/* ---- a dump */
+
+static void take_dump(struct shot *s, const char *path, bool all_faults) {
+    struct bytes b = file_need(path);
+    s->name = path;
+    shot_take(s, &b, all_faults);
+    free(b.at);
+}
+
+static void say_short(const struct shot *s) {
+    say("refused 14\n%s\n%s has %zu byte%s\n", lcd_refusal_text(14), s->name, s->bytes, s->bytes == 1 ? "" : "s");
+}
+
+/* What is to be known of the dump: the counts or the refusal, and all the registers where they are asked for. */
+static void say_dump(const struct shot *s, const struct options *o) {
+    const char *glass;
+    if (s->refusal == 14) {
+        say_short(s);
+        return;
+    }
+    if (!s->refusal)
+        account_counts(&s->dump);
+    else if (o->registers)
+        account_faults(&s->faults);
     else
-        printf("differs: %zu of %zu pixels, first at row %zu, column %zu: golden %06" PRIx32 ", here %06" PRIx32 "\n", differ, all,
-               first / p->width, first % p->width, golden.colours[first], p->colours[first]);
-    if (differ && o->differences) {
-        differences = picture_differences(&golden, p);
-        picture_write(&differences, o->differences);
-        picture_free(&differences);
-    }
-    picture_free(&golden);
-    return differ != 0;
-}
-
-static int refuse(const struct dump *d, uint32_t refusal, const struct options *o) {
-    print_refusal(refusal);
+        account_refusal(&s->faults);
+    if (!s->refusal && (glass = account_glass(&s->readings)))
+        say("%s\n", glass);
     if (o->registers)
-        account_print(d, refusal);
-    return 1;
+        account_registers(&s->readings, &s->faults);
 }
 
-static int show(const struct dump *d, const struct options *o) {
-    uint32_t refusal;
-    struct picture p = draw(d, &refusal);
-    int status = 0;
-    if (refusal) {
-        status = refuse(d, refusal, o);
-    } else {
-        print_counts(d);
-        if (o->registers)
-            account_print(d, 0);
-        if (o->output)
-            picture_write(&p, o->output);
-        if (o->golden)
-            status = compare(&p, o);
+/* ---- one dump, or words: all is read and judged, then told, then written */
+
+static void write_outputs(const struct shot *s, const struct options *o) {
+    if (options_dump_out(o) && s->refusal != 14)
+        dump_write(&s->dump, o->output);
+    else if (o->output && s->picture.colours)
+        picture_write(&s->picture, o->output);
+    if (o->differences && s->compared && s->comparison.same_size && s->comparison.differ) {
+        struct picture p = comparison_picture(&s->comparison, &s->golden, &s->picture);
+        picture_write(&p, o->differences);
+        picture_free(&p);
     }
-    picture_free(&p);
+}
+
+static void take_golden(struct shot *s, const struct options *o, const struct bytes *golden) {
+    uint32_t tolerance = o->tolerance ? decimal_of("--tolerance", "the distance", o->tolerance, 255) : 0;
+    shot_compare(s, golden, tolerance);
+    if (s->golden_error)
+        fail(o->golden, s->golden_error);
+}
+
+static void take_old(struct shot *old, const struct options *o) {
+    take_dump(old, o->against, false);
+    if (old->refusal == 14)
+        fail(o->against, lcd_refusal_text(14));
+}
+
+static int tell(const struct shot *s, const struct shot *old, const struct options *o) {
+    struct against a;
+    bool beside = o->against && s->refusal != 14;
+    int status;
+    if (beside)
+        against_find(&a, old, s);
+    status = shot_status(s) || (beside && a.any);
+    if (o->json) {
+        json_begin();
+        json_shot(s, beside ? old : NULL, beside ? &a : NULL);
+        json_end(status);
+        return status;
+    }
+    say_dump(s, o);
+    if (s->compared)
+        comparison_say(&s->comparison, &s->picture);
+    if (beside)
+        against_say(&a, old, s);
     return status;
+}
+
+static int show(const struct options *o) {
+    static struct shot s, old;
+    struct bytes golden = {NULL, 0};
+    int status;
+    if (o->golden)
+        golden = file_need(o->golden);
+    if (o->against)
+        take_old(&old, o);
+    if (o->words[0])
+        take_words(&s, o);
+    else
+        take_dump(&s, o->dumps[0], o->registers || o->json);
+    if (o->golden)
+        take_golden(&s, o, &golden);
+    status = tell(&s, &old, o);
+    write_outputs(&s, o);
+    free(golden.at);
+    shot_free(&s);
+    shot_free(&old);
+    return status;
+}
+
+/* No output is an input, and no two outputs are one file. */
+static void keep_apart(const struct options *o) {
+    const char *more[] = {o->golden, o->against, o->memory, o->palette}, *outputs[] = {o->output, o->differences};
+    const char **inputs = grow(NULL, sizeof *inputs * (size_t)o->dump_count + sizeof more);
+    memcpy(inputs, more, sizeof more);
+    memcpy(inputs + 4, o->dumps, sizeof *inputs * (size_t)o->dump_count);
+    outputs_apart(inputs, (size_t)o->dump_count + 4, outputs, 2);
+    free(inputs);
 }
 
 int main(int argc, char **argv) {
-    struct options o = read_options(argc, argv);
-    struct dump d;
-    size_t bytes;
+    struct options o;
     int status;
-    if (o.card[0])
-        return make_card(&o);
-    if (dump_read(&d, o.dump, &bytes)) {
-        print_refusal(14);
-        printf("%s has %zu bytes\n", o.dump, bytes);
-        return 1;
-    }
-    status = show(&d, &o);
-    dump_free(&d);
-    if (fflush(stdout))
-        fail("standard output", "can't be written");
-    return status;
+    streams_ready();
+    o = options_read(argc, argv);
+    keep_apart(&o);
+    status = o.card[0] ? make_card(&o) : options_several(&o) ? several_show(&o) : show(&o);
+    free(o.dumps);
+    finish(status);
 }

@@ -2,8 +2,10 @@
 #ifndef PICTURE_H
 #define PICTURE_H
 
+#include <stdbool.h>
 #include <stddef.h>
 #include <stdint.h>
+#include "files.h"
 
 struct picture {
     uint32_t width, height;
@@ -15,16 +17,11 @@ struct picture picture_new(uint32_t width, uint32_t height);
 
 void picture_free(struct picture *p);
 
-/* Reads a PNG of any kind as 8 bits a channel, without its alpha. A file that can't be read ends the program. */
-struct picture picture_read(const char *path);
+/* Takes a PNG of any kind by the samples that it stores: no gamma, no background. Its colours are taken where it has the size of
+ * `like` and left out where it has another. Returns NULL, or why it can't be taken: damaged, a pixel that is not opaque, or a 16-bit
+ * sample between two 8-bit ones. */
+const char *picture_take(struct picture *p, const struct bytes *png, const struct picture *like);
 
-/* Writes a PNG, beside the file first. A file that can't be written ends the program. */
 void picture_write(const struct picture *p, const char *path);
-
-/* How many colours differ between two pictures of one size, and the index of the first that does. */
-size_t picture_compare(const struct picture *a, const struct picture *b, size_t *first);
-
-/* The picture of the differences: white where the two differ, else the second one's colour at a quarter of its light. */
-struct picture picture_differences(const struct picture *a, const struct picture *b);
 
 #endif

@@ -2,11 +2,12 @@
  * software on the chip stores it, first pixel at the lowest address. The chip takes a word's highest bits first (document 01, "Where
  * a pixel lies"), so 16 bits want HWSWP and fewer want BSWP. */
 #include "testcard.h"
+#include <inttypes.h>
+#include <stdio.h>
 #include <stdlib.h>
 #include <string.h>
-#include "../lcd.h"
 #include "card.h"
-#include "files.h"
+#include "fields.h"
 
 enum { HCLK = 100000000, START = 0x30000000, BANK = START >> 22, USUAL_MILLIHERTZ = 60000 };
 
@@ -45,8 +46,6 @@ static uint32_t mode_of(uint32_t bits) {
     return i;
 }
 
-bool testcard_mode(uint32_t bits) { return mode_of(bits) < 6; }
-
 static void set_timing(uint32_t *fields, const struct timing *t) {
     fields[LCD_HOZVAL] = t->width - 1, fields[LCD_LINEVAL] = t->height - 1;
     fields[LCD_HSPW] = t->hsync - 1, fields[LCD_HBPD] = t->hback - 1, fields[LCD_HFPD] = t->hfront - 1;
@@ -75,15 +74,15 @@ static uint32_t set_clock(uint32_t *fields, uint32_t *words) {
     bool known = fields[LCD_HOZVAL] == panels[0].width - 1 && fields[LCD_LINEVAL] == panels[0].height - 1;
     for (uint32_t clkval = 0; clkval < 1024 && !known; clkval++) {
         fields[LCD_CLKVAL] = clkval;
-        if ((refusal = lcd_write_fields(fields, LCD_FIELDS, words, 9)) || (refusal = lcd_counts(words, 9, HCLK, counts, 3)))
+        if ((refusal = lcd_write_fields(fields, LCD_FIELDS, words, LCD_REGISTERS)) || (refusal = lcd_counts(words, LCD_REGISTERS, HCLK, counts, 3)))
             return refusal;
         if (apart(counts[2], USUAL_MILLIHERTZ) < best)
             best = apart(counts[2], USUAL_MILLIHERTZ), chosen = clkval;
     }
     fields[LCD_CLKVAL] = chosen;
-    if ((refusal = lcd_write_fields(fields, LCD_FIELDS, words, 9)))
+    if ((refusal = lcd_write_fields(fields, LCD_FIELDS, words, LCD_REGISTERS)))
         return refusal;
-    return lcd_counts(words, 9, HCLK, counts, 3);
+    return lcd_counts(words, LCD_REGISTERS, HCLK, counts, 3);
 }
 
 /* ---- the palette */
@@ -161,17 +160,64 @@ static void fill_video(struct dump *d, uint32_t width, uint32_t height, uint32_t
     picture_free(&card);
 }
 
-uint32_t testcard_make(struct dump *d, uint32_t width, uint32_t height, uint32_t bits) {
+/* ---- what can't be made, and what is seen */
+
+static bool outside(const char *what, uint32_t n, uint32_t most, char *why) {
+    bool is = n < 1 || n > most;
+    if (is)
+        snprintf(why, CARD_FAULT, "%s %" PRIu32 " is outside 1 to %" PRIu32, what, n, most);
+    return is;
+}
+
+/* Sizes and mode that no fields can be made for. */
+static bool no_fields(uint32_t width, uint32_t height, uint32_t bits, char *why) {
+    const struct layout *l = layout_asked();
+    uint32_t page = (uint64_t)width * (bits == 24 ? 32 : bits) / 16;
+    if (outside("width", width, l->most[LCD_HOZVAL] + 1, why) || outside("height", height, l->most[LCD_LINEVAL] + 1, why))
+        return true;
+    if (mode_of(bits) == 6)
+        snprintf(why, CARD_FAULT, "BPP %" PRIu32 " is none of 1, 2, 4, 8, 16 and 24", bits);
+    else if (page > l->most[LCD_PAGEWIDTH])
+        snprintf(why, CARD_FAULT, "width %" PRIu32 " at %" PRIu32 " bits needs PAGEWIDTH %" PRIu32 ", above %" PRIu32, width, bits, page,
+                 l->most[LCD_PAGEWIDTH]);
+    else
+        return false;
+    return true;
+}
+
+/* A row is made of whole words. */
+static void explain(uint32_t refusal, uint32_t width, uint32_t bits, char *why) {
+    if (refusal == 5)
+        snprintf(why, CARD_FAULT, "width %" PRIu32 " at %" PRIu32 " bit%s is no multiple of %" PRIu32, width, bits,
+                 bits == 1 ? "" : "s", bits == 24 ? 1 : 32 / bits);
+    else
+        snprintf(why, CARD_FAULT, "refused %" PRIu32 ", %.90s", refusal, lcd_refusal_text(refusal));
+}
+
+const char *testcard_shows(uint32_t bits) {
+    switch (bits) {
+    case 1: return "in white on black: a border, the eight bars (the light colours white), a ramp of two steps, the size, the diagram";
+    case 2: return "in four greys: a border, the eight bars, a ramp of four steps, the size in figures, the polar diagram";
+    case 4: return "a border, eight colour bars, a ramp of eight greys, the size in figures, the polar diagram in red and green";
+    default: return "a border, eight colour bars, a grey ramp, the size in figures, the polar diagram in red and green";
+    }
+}
+
+bool testcard_make(struct dump *d, uint32_t width, uint32_t height, uint32_t bits, char *why) {
     uint32_t fields[LCD_FIELDS], refusal;
-    d->video = NULL;
+    *d = (struct dump){.hclk = HCLK, .window_start = START};
+    if (no_fields(width, height, bits, why))
+        return false;
     set_fields(fields, width, height, bits);
     refusal = set_clock(fields, d->words);
+    if (!refusal) {
+        d->video_len = (size_t)fields[LCD_PAGEWIDTH] / 2 * height;
+        d->video = grow(NULL, sizeof *d->video * d->video_len);
+        set_palette(d, bits);
+        fill_video(d, width, height, bits);
+        refusal = lcd_check(d->words, LCD_REGISTERS, START, d->video, d->video_len);
+    }
     if (refusal)
-        return refusal;
-    d->hclk = HCLK, d->window_start = START;
-    d->video_len = (size_t)fields[LCD_PAGEWIDTH] / 2 * height;
-    d->video = grow(NULL, sizeof *d->video * d->video_len);
-    set_palette(d, bits);
-    fill_video(d, width, height, bits);
-    return lcd_check(d->words, 9, START, d->video, d->video_len);
+        explain(refusal, width, bits, why);
+    return !refusal;
 }

@@ -1,0 +1,36 @@
+# The C interface beside the tool: a program of its own with lcd_refusals.c, by the link line of the README, as C and as C++.
+
+cat > refuse.c <<'END'
+#include <stdio.h>
+#include "lcd.h"
+int main(void) {
+    uint32_t words[LCD_REGISTERS] = {0}, sizes[LCD_SIZES];
+    uint16_t palette[LCD_PALETTE_ENTRIES] = {0};
+    uint32_t numbers[] = {lcd_read_sizes(words, LCD_REGISTERS, sizes, LCD_SIZES), lcd_check(words, LCD_REGISTERS, 0, words, 0), 15, 16};
+    for (int i = 0; i < 4; i++)
+        printf("%u %s\n", (unsigned)numbers[i], lcd_refusal_text(numbers[i]));
+    printf("%zu %zu %d.%d %s\n", sizeof words / 4, sizeof palette / 2, LCD_VERSION_MAJOR, LCD_VERSION_MINOR, LCD_VERSION);
+    return 0;
+}
+END
+due="0 no refusal
+2 PNRMODE is not 3, TFT
+15 the position is not below the frame's clocks
+16 no such refusal
+9 256 $(sed -n 's/#define LCD_VERSION "\(.*\)"/\1 \1/p' "$top/host/lcd.h")"
+# the README's line, with this program for its program.c
+line=$(sed -n 's/^ *\(gcc .*liblcd\.a\).*/\1/p' "$top/README.md" | head -n 1)
+(cd "$top" && eval "${line/program.c/"$work/interface/refuse.c"} -o '$work/interface/refuse'")
+same "$(./refuse)" "$due" 'a C program over the library'
+line=${line/gcc/g++ -x c++}
+line=${line/target/-x none target}
+(cd "$top" && eval "${line/program.c/"$work/interface/refuse.c"} -o '$work/interface/refuse++'")
+same "$(./refuse++)" "$due" 'a C++ program over the library'
+
+# The tool's text of a refusal is the table's.
+patch "$t1" 0 0x5b > stn.dump
+gives 1 'refused 2' stn.dump
+same "$(sed -n 2p out)" 'PNRMODE is not 3, TFT' 'the text of a refusal'
+# Numbers and texts of the table stand in the README's table too, 1 to 15.
+same "$(sed -n 's/^    R(\([0-9]*\),.*/\1/p' "$top/host/lcd.h" | xargs)" "$(sed -n 's/^| \([0-9]*\) | .*/\1/p' "$top/README.md" | sort -nu | xargs)" \
+    'the numbers of refusal in lcd.h and in the README'

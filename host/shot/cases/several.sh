@@ -1,0 +1,75 @@
+# Several dumps in one call, and the same facts as JSON.
+
+mkdir goldens
+cp "$examples"/*.png goldens
+patch "$td.dump" 16 ^1 > swap.dump
+patch "$t1" 0 0x5b > stn.dump
+head -c 5 "$t1" > short.dump
+cp "$td.dump" td035sted4-16.dump
+
+# ---- a line each, and the worst exit status
+
+run "$examples"/*.dump
+same "$status $(wc -l < out)" '0 6' 'a line each'
+says "$examples/at070tn83-4.dump 800 by 480 4 bits 51.313 Hz accepted" 'name, size, mode, rate'
+run "$examples"/*.dump --golden-dir goldens
+same "$status $(grep -c 'accepted  equal$' out)" '0 6' 'all are their golden pictures'
+run td035sted4-16.dump --golden-dir goldens
+same "$status: $(cat out)" '0: td035sted4-16.dump   240 by 320   16 bits    109.553 Hz  accepted  equal' 'one dump and a folder of golden pictures'
+run td035sted4-16.dump stn.dump short.dump
+same "$status: $(sed 's/  */ /g' out)" "1: td035sted4-16.dump 240 by 320 16 bits 109.553 Hz accepted
+stn.dump 1 by 2 24 bits no rate refused 2
+short.dump refused 14" 'refused ones'
+cp swap.dump lq64d343-2.dump && cp swap.dump goldens/swap.dump && cp "$td.png" goldens/swap.png
+run swap.dump lq64d343-2.dump td035sted4-16.dump --golden-dir goldens
+same "$status: $(sed 's/  */ /g; s/.*accepted //' out)" "1: differs: 8328 of 76800 pixels
+differs in size
+equal" 'different ones'
+cp "$td.dump" unknown.dump && echo no > goldens/damaged.png && cp "$td.dump" damaged.dump
+run unknown.dump no.dump damaged.dump td035sted4-16.dump --golden-dir goldens
+same "$status: $(sed 's/  */ /g; s/.*accepted //' out)" "2: error with the golden picture: No such file or directory
+no.dump error: No such file or directory
+error with the golden picture: can't be read as a PNG: not a PNG file
+equal" 'an error does not end the call, and is the worst'
+same "$(wc -c < err)" 0 'no progress line where there is no terminal'
+patch "$td.dump" 556 ^1 > td.dump && cp "$td.png" goldens/td.png
+run td.dump --golden-dir goldens
+same "$status $(sed 's/.*accepted  //' out)" '1 differs: 1 of 76800 pixels' 'a pixel'
+run td.dump --golden-dir goldens --tolerance 8
+same "$status $(sed 's/.*accepted  //' out)" '0 equal' 'a pixel within the tolerance'
+cp "$td.dump" $'two\nlines.dump'
+run $'two\nlines.dump' short.dump
+same "$(wc -l < out)" 2 'a name with a line feed stays on its line'
+
+# a line that says how far it is, on a terminal alone
+script -qec "'$shot' td035sted4-16.dump stn.dump" /dev/null > typed 2>&1 || true
+same "$(grep -c '1 of 2: td035sted4-16.dump' typed) $(grep -c '2 of 2: stn.dump' typed)" '1 1' 'a progress line on a terminal'
+
+# ---- JSON
+
+json() { jq -c "$1" out; }
+run "$td.dump" --json
+same "$status $(json '[.status, .dumps[0].accepted, .dumps[0].width, .dumps[0].height, .dumps[0].bits, .dumps[0].counts.mhz]')" \
+    '0 [0,true,240,320,16,109553]' 'the facts of a dump'
+same "$(json '[.dumps[0].registers[].name]')" \
+    '["LCDCON1","LCDCON2","LCDCON3","LCDCON4","LCDCON5","LCDSADDR1","LCDSADDR2","LCDSADDR3","TPAL"]' 'its registers'
+same "$(jq -r '.dumps[0].registers[].fields[] | "  \(.name) \(.high)\(if .high == .low then "" else "..\(.low)" end) \(.number)  \(.meaning)"' out |
+    sed 's/  */ /g')" "$("$shot" "$td.dump" --registers | sed -n 's/^  \([A-Z]\)/ \1/p' | sed 's/  */ /g')" 'the account as JSON'
+run stn.dump --json
+same "$status $(json '[.status, .dumps[0].refusal, .dumps[0].counts, .dumps[0].faults[0].lifted_by]')" \
+    '1 [1,2,null,[{"set":{"PNRMODE":3},"then":0}]]' 'a refusal'
+run swap.dump --compare "$td.png" --json
+same "$status $(json '.dumps[0].comparison | [.equal, .differ, .pixels, .top, .bottom, .left, .right, .largest_distance, .equal_with]')" \
+    '1 [false,8328,76800,1,318,0,239,252,["HWSWP 1"]]' 'a comparison'
+run swap.dump --against "$td.dump" --json
+same "$status $(json '.dumps[0].against | [.differs, .fields[0].name, .fields[0].old, .fields[0].new, .palette, .memory.words_differ]')" \
+    '1 [true,"HWSWP",1,0,[],0]' 'another dump'
+run unknown.dump no.dump short.dump td035sted4-16.dump --golden-dir goldens --json
+same "$status $(json '[.status, (.dumps | length), .dumps[0].golden_error, .dumps[1].error, .dumps[2].refusal, .dumps[3].comparison.equal]')" \
+    '2 [2,4,"No such file or directory","No such file or directory",14,true]' 'several dumps'
+run --words $t9 --hclk 100000000 --json
+same "$status $(json '[.dumps[0].memory.needed_first, .dumps[0].memory.needed_last]')" '0 ["0x30000000","0x300257ff"]' 'words'
+printf -v odd 'quote"back\\slash\ttab\xff\xc3\xa9.dump'
+cp "$t1" "$odd"
+run "$odd" --json
+same "$(jq -r '.dumps[0].name' out)" "$(printf 'quote"back\\slash\ttab\xef\xbf\xbd\xc3\xa9.dump')" 'a name of any bytes'

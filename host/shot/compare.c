@@ -1,0 +1,129 @@
+/* Two pictures side by side. */
+#include "compare.h"
+#include <inttypes.h>
+#include <string.h>
+#include "fields.h"
+#include "screen.h"
+
+/* The largest distance of the three parts of two colours. */
+static uint32_t distance(uint32_t a, uint32_t b) {
+    uint32_t most = 0;
+    for (int shift = 0; shift < 24; shift += 8) {
+        uint32_t x = a >> shift & 0xff, y = b >> shift & 0xff, by = x < y ? y - x : x - y;
+        most = by > most ? by : most;
+    }
+    return most;
+}
+
+static void count_pixel(struct comparison *c, size_t i, uint32_t golden, uint32_t here) {
+    uint32_t row = i / c->width, column = i % c->width;
+    if (!c->differ++) {
+        c->first = i;
+        c->golden_first = golden, c->here_first = here;
+        c->top = row, c->left = c->right = column;
+    }
+    c->bottom = row;
+    c->left = column < c->left ? column : c->left;
+    c->right = column > c->right ? column : c->right;
+}
+
+void compare(struct comparison *c, const struct picture *golden, const struct picture *here, uint32_t tolerance) {
+    memset(c, 0, sizeof *c);
+    c->width = golden->width, c->height = golden->height;
+    c->tolerance = tolerance;
+    c->same_size = golden->width == here->width && golden->height == here->height;
+    c->all = (size_t)here->width * here->height;
+    for (size_t i = 0; c->same_size && i < c->all; i++) {
+        uint32_t by = distance(golden->colours[i], here->colours[i]);
+        c->largest = by > c->largest ? by : c->largest;
+        if (by > tolerance)
+            count_pixel(c, i, golden->colours[i], here->colours[i]);
+    }
+}
+
+bool comparison_equal(const struct comparison *c) { return c->same_size && !c->differ; }
+
+struct picture comparison_picture(const struct comparison *c, const struct picture *golden, const struct picture *here) {
+    struct picture p = picture_new(here->width, here->height);
+    for (size_t i = 0; i < c->all; i++) {
+        bool far = distance(golden->colours[i], here->colours[i]) > c->tolerance;
+        p.colours[i] = far ? 0xffffff : here->colours[i] >> 2 & 0x3f3f3f;
+    }
+    return p;
+}
+
+/* ---- neighbours */
+
+static void try_neighbour(struct comparison *c, const struct dump *d, const uint32_t *words, const struct picture *golden,
+                          const char *name) {
+    struct picture p;
+    struct comparison other;
+    if (screen_draw(d, words, &p))
+        return;
+    compare(&other, golden, &p, c->tolerance);
+    if (comparison_equal(&other))
+        snprintf(c->equal_with[c->equal_count++], NEIGHBOUR, "%s", name);
+    picture_free(&p);
+}
+
+/* The view a row up or down: LCDBASEU and, as the library refuses it otherwise, LCDBASEL by as much. */
+static void try_row(struct comparison *c, const struct dump *d, const struct readings *r, const struct picture *golden, bool up) {
+    uint32_t words[LCD_REGISTERS], pitch = r->fields[LCD_PAGEWIDTH] + r->fields[LCD_OFFSIZE];
+    uint32_t most = layout_asked()->most[LCD_LCDBASEU], base = r->fields[LCD_LCDBASEU] + (up ? -pitch : pitch);
+    uint32_t end = (r->fields[LCD_LCDBASEL] + (up ? -pitch : pitch)) & layout_asked()->most[LCD_LCDBASEL];
+    char name[NEIGHBOUR];
+    if (base > most)
+        return;
+    memcpy(words, d->words, sizeof words);
+    put_field(words, LCD_LCDBASEU, base);
+    put_field(words, LCD_LCDBASEL, end);
+    snprintf(name, sizeof name, "LCDBASEU %" PRIu32 " and LCDBASEL %" PRIu32 ", a row %s", base, end, up ? "less" : "more");
+    try_neighbour(c, d, words, golden, name);
+}
+
+void compare_neighbours(struct comparison *c, const struct dump *d, const struct picture *golden) {
+    static const int flags[] = {LCD_HWSWP, LCD_BSWP, LCD_BPP24BL, LCD_FRM565};
+    uint32_t words[LCD_REGISTERS];
+    struct readings r;
+    char name[NEIGHBOUR];
+    readings_ask(&r, d);
+    for (int i = 0; i < 4; i++) {
+        memcpy(words, d->words, sizeof words);
+        put_field(words, flags[i], !r.fields[flags[i]]);
+        snprintf(name, sizeof name, "%s %d", field_name(flags[i]), !r.fields[flags[i]]);
+        try_neighbour(c, d, words, golden, name);
+    }
+    try_row(c, d, &r, golden, true);
+    try_row(c, d, &r, golden, false);
+}
+
+/* ---- in words */
+
+static const char *pixels(size_t count) { return count == 1 ? "pixel" : "pixels"; }
+
+static void say_differences(const struct comparison *c) {
+    say("differs: %zu of %zu %s, first at row %zu, column %zu: golden %06" PRIx32 ", here %06" PRIx32 "\n", c->differ, c->all,
+        pixels(c->all), c->first / c->width, c->first % c->width, c->golden_first, c->here_first);
+    say("within rows %" PRIu32 " to %" PRIu32 " and columns %" PRIu32 " to %" PRIu32 ", largest distance %" PRIu32 " of 255", c->top,
+        c->bottom, c->left, c->right, c->largest);
+    if (c->tolerance)
+        say(", tolerance %" PRIu32, c->tolerance);
+    say("\n");
+    for (int i = 0; i < c->equal_count; i++)
+        say("equal with %s\n", c->equal_with[i]);
+    if (!c->equal_count)
+        say("not equal with another HWSWP, BSWP, BPP24BL or FRM565 either, nor with LCDBASEU a row less or more\n");
+}
+
+void comparison_say(const struct comparison *c, const struct picture *here) {
+    if (!c->same_size)
+        say("differs in size: golden %" PRIu32 " by %" PRIu32 ", here %" PRIu32 " by %" PRIu32 "\n", c->width, c->height, here->width,
+            here->height);
+    else if (c->differ)
+        say_differences(c);
+    else if (c->largest)
+        say("equal: %zu %s within a tolerance of %" PRIu32 ", largest distance %" PRIu32 "\n", c->all, pixels(c->all), c->tolerance,
+            c->largest);
+    else
+        say("equal: %zu %s\n", c->all, pixels(c->all));
+}

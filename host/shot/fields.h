@@ -1,0 +1,72 @@
+/* The registers and their fields by name (document 01, "The nine words"): where they lie, which is asked of the library, their numbers
+ * in a dump, and what a number means. */
+#ifndef FIELDS_H
+#define FIELDS_H
+
+#include <stdbool.h>
+#include <stdint.h>
+#include "../lcd.h"
+#include "dump.h"
+
+enum { WORD_BITS = 32 };
+
+extern const char *const register_names[LCD_REGISTERS];
+
+const char *field_name(int field);
+
+/* ---- the layout */
+
+enum { RESERVED = -1, READ_ONLY = -2 };
+
+/* A stretch of bits of one word that belongs together. */
+struct part {
+    int high, low;
+    int field;        /* of lcd_field, RESERVED or READ_ONLY */
+    const char *name; /* NULL for reserved bits */
+};
+
+struct layout {
+    struct part parts[LCD_REGISTERS][WORD_BITS]; /* from bit 31 down */
+    int count[LCD_REGISTERS];
+    uint32_t reserved[LCD_REGISTERS]; /* the reserved bits of each register */
+    int word[LCD_FIELDS], low[LCD_FIELDS];
+    uint32_t most[LCD_FIELDS]; /* a field's register, lowest bit and largest number */
+};
+
+/* The layout as the library tells it: which field a word with one bit set has. */
+const struct layout *layout_asked(void);
+
+/* The number that a part of a word holds. */
+uint32_t part_number(const struct part *p, uint32_t word);
+
+/* The nine words without their reserved bits. */
+void words_cleared(const uint32_t *words, uint32_t *cleared);
+
+/* Puts a number, which must fit, into a field of nine words. */
+void put_field(uint32_t *words, int field, uint32_t number);
+
+/* ---- a dump's numbers and their meaning */
+
+struct readings {
+    const struct dump *dump;
+    uint32_t fields[LCD_FIELDS], sizes[LCD_SIZES];
+};
+
+/* Fields and sizes of the words; reserved bits that are set, for which reading refuses, are left out. */
+void readings_ask(struct readings *r, const struct dump *d);
+
+enum { MEANING = 120 };
+
+/* What a field's number means, in at most MEANING characters. */
+void field_meaning(const struct readings *r, int field, char *to);
+
+/* "16 bits a pixel" and so on. */
+void mode_meaning(uint32_t stored_bits, char *to);
+
+/* A rate as "109.553 Hz", with `millihertz` in thousandths of a hertz; "10.000 MHz" where that is shorter. */
+void rate_text(uint64_t millihertz, char *to);
+
+/* HCLK over so many ticks, in thousandths of a hertz, rounded down. */
+uint64_t millihertz_of(uint32_t hclk, uint64_t ticks);
+
+#endif

@@ -1,0 +1,12 @@
+/* The picture that the library draws of a dump. */
+#ifndef SCREEN_H
+#define SCREEN_H
+
+#include <stdint.h>
+#include "dump.h"
+#include "picture.h"
+
+/* Draws these nine words with the dump's memory and palette. Returns 0, or the number of the refusal, and then there are no colours. */
+uint32_t screen_draw(const struct dump *d, const uint32_t *words, struct picture *p);
+
+#endif

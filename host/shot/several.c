@@ -1,0 +1,128 @@
+/* Several dumps in one call: a line each, or an object each, and on a terminal a line that says how far it is. */
+#include "several.h"
+#include <errno.h>
+#include <inttypes.h>
+#include <stdlib.h>
+#include <string.h>
+#include <unistd.h>
+#include "json.h"
+#include "shot.h"
+
+/* ---- golden pictures by name */
+
+static const char *last_name(const char *path) { return strrchr(path, '/') ? strrchr(path, '/') + 1 : path; }
+
+/* DIR/NAME.png for NAME.dump; the caller frees it. */
+static char *golden_path(const char *folder, const char *dump) {
+    const char *name = last_name(dump), *ending = strrchr(name, '.');
+    size_t length = ending && !strcmp(ending, ".dump") ? (size_t)(ending - name) : strlen(name), room = strlen(folder) + length + 6;
+    char *path = grow(NULL, room);
+    snprintf(path, room, "%s/%.*s.png", folder, (int)length, name);
+    return path;
+}
+
+static void compare_with(struct shot *s, const char *folder, uint32_t tolerance) {
+    char *path = golden_path(folder, s->name);
+    struct bytes golden;
+    s->golden_error = file_read(path, &golden);
+    if (!s->golden_error)
+        shot_compare(s, &golden, tolerance);
+    free(golden.at);
+    free(path);
+}
+
+/* ---- a line */
+
+/* A name on one line, whatever is in it. */
+static void say_name(const char *name, int width) {
+    for (; *name; name++, width--)
+        say("%c", (unsigned char)*name < 0x20 || *name == 0x7f ? '?' : *name);
+    say("%*s", width > 0 ? width : 0, "");
+}
+
+static void say_facts(const struct shot *s) {
+    uint32_t stored = s->readings.sizes[LCD_SIZE_STORED_BITS], bits = stored == 32 ? 24 : stored;
+    uint64_t counts[3];
+    char rate[MEANING] = "no rate";
+    if (!lcd_counts(s->dump.words, LCD_REGISTERS, s->dump.hclk, counts, 3))
+        rate_text(counts[2], rate);
+    say("  %4" PRIu32 " by %-4" PRIu32 "  ", s->readings.sizes[LCD_SIZE_WIDTH], s->readings.sizes[LCD_SIZE_HEIGHT]);
+    if (stored)
+        say("%2" PRIu32 " %-4s", bits, bits == 1 ? "bit" : "bits");
+    else
+        say("no mode");
+    say("  %12s", rate);
+}
+
+static void say_line(const struct shot *s, int width) {
+    say_name(s->name, width);
+    if (s->error) {
+        say("  error: %s\n", s->error);
+        return;
+    }
+    if (s->refusal != 14)
+        say_facts(s);
+    if (s->refusal)
+        say("  refused %" PRIu32, s->refusal);
+    else
+        say("  accepted");
+    if (s->golden_error)
+        say("  error with the golden picture: %s", s->golden_error);
+    else if (s->compared && comparison_equal(&s->comparison))
+        say("  equal");
+    else if (s->compared && s->comparison.same_size)
+        say("  differs: %zu of %zu pixels", s->comparison.differ, s->comparison.all);
+    else if (s->compared)
+        say("  differs in size");
+    say("\n");
+}
+
+/* ---- all of them */
+
+/* How far it is, on a terminal; wiped away before the next line is printed. */
+static void progress(int done, int all, const char *name) {
+    if (isatty(STDERR_FILENO) && done < all)
+        fprintf(stderr, "\r\033[K%d of %d: %.60s", done + 1, all, last_name(name));
+    else if (isatty(STDERR_FILENO))
+        fprintf(stderr, "\r\033[K");
+    fflush(stderr);
+}
+
+static int show_one(const struct options *o, const char *name, uint32_t tolerance, int width) {
+    struct shot s = {.name = name};
+    struct bytes b;
+    int status;
+    s.error = file_read(name, &b);
+    if (!s.error)
+        shot_take(&s, &b, o->json);
+    free(b.at);
+    if (o->golden_dir && s.picture.colours)
+        compare_with(&s, o->golden_dir, tolerance);
+    progress(1, 1, name);
+    if (o->json)
+        json_shot(&s, NULL, NULL);
+    else
+        say_line(&s, width);
+    report_flush();
+    status = shot_status(&s);
+    shot_free(&s);
+    return status;
+}
+
+int several_show(const struct options *o) {
+    uint32_t tolerance = o->tolerance ? decimal_of("--tolerance", "the distance", o->tolerance, 255) : 0;
+    int worst = 0, width = 0;
+    for (int i = 0; i < o->dump_count; i++)
+        width = (int)strlen(o->dumps[i]) > width ? (int)strlen(o->dumps[i]) : width;
+    if (o->json)
+        json_begin();
+    for (int i = 0; i < o->dump_count; i++) {
+        int status;
+        progress(i, o->dump_count, o->dumps[i]);
+        status = show_one(o, o->dumps[i], tolerance, width);
+        worst = status > worst ? status : worst;
+    }
+    if (o->json)
+        json_end(worst);
+    return worst;
+}

@@ -1,0 +1,10 @@
+/* Several dumps in one call: a line each. */
+#ifndef SEVERAL_H
+#define SEVERAL_H
+
+#include "options.h"
+
+/* Judges each dump, compares it where a folder of golden pictures is given, and returns the worst exit status. */
+int several_show(const struct options *o);
+
+#endif
