@@ -32,8 +32,9 @@ static void add_part(struct against *a, const struct shot *old, const struct sho
     }
 }
 
+/* HCLK that was not given with words is no difference. */
 static void add_clock(struct against *a, const struct shot *old, const struct shot *now) {
-    struct difference *d = add(a, "", "HCLK", old->dump.hclk, now->dump.hclk);
+    struct difference *d = now->dump.source != FROM_FILE && !now->dump.hclk ? NULL : add(a, "", "HCLK", old->dump.hclk, now->dump.hclk);
     if (!d)
         return;
     rate_text((uint64_t)old->dump.hclk * 1000, d->old_meaning);
@@ -63,8 +64,6 @@ static void find_fields(struct against *a, const struct shot *old, const struct 
         for (int i = 0; i < l->count[word]; i++)
             add_part(a, old, now, word, &l->parts[word][i]);
     add_clock(a, old, now);
-    add_start(a, old, now);
-    add_refusal(a, old, now);
 }
 
 /* ---- memory, by its addresses */
@@ -84,16 +83,24 @@ static void find_words(struct against *a, const struct dump *old, const struct d
     }
 }
 
+bool palette_differs(const struct shot *old, const struct shot *now, int entry) {
+    return !now->dump.no_palette && old->dump.palette[entry] != now->dump.palette[entry];
+}
+
+/* Words alone have registers and nothing else to compare. */
 void against_find(struct against *a, const struct shot *old, const struct shot *now) {
-    bool counts = false;
     memset(a, 0, sizeof *a);
     find_fields(a, old, now);
+    if (now->dump.source != WORDS_ALONE) {
+        add_start(a, old, now);
+        add_refusal(a, old, now);
+        find_words(a, &old->dump, &now->dump);
+    }
     for (int i = 0; i < a->field_count; i++)
-        counts |= a->fields[i].counts;
+        a->any |= a->fields[i].counts;
     for (int i = 0; i < LCD_PALETTE_ENTRIES; i++)
-        a->palette_count += old->dump.palette[i] != now->dump.palette[i];
-    find_words(a, &old->dump, &now->dump);
-    a->any = counts || a->palette_count || a->words || a->old_only || a->now_only;
+        a->any |= palette_differs(old, now, i);
+    a->any |= a->words || a->old_only || a->now_only;
 }
 
 /* ---- in words */
@@ -113,7 +120,7 @@ void against_say(const struct against *a, const struct shot *old, const struct s
     for (int i = 0; i < a->field_count; i++)
         say_difference(&a->fields[i]);
     for (int i = 0; i < LCD_PALETTE_ENTRIES; i++)
-        if (old->dump.palette[i] != now->dump.palette[i])
+        if (palette_differs(old, now, i))
             say("  palette   entry %-6d 0x%04x  ->  0x%04x\n", i, old->dump.palette[i], now->dump.palette[i]);
     if (a->words)
         say("  memory                 %zu of %zu words, first at 0x%08" PRIx64 ": 0x%08" PRIx32 "  ->  0x%08" PRIx32 "\n", a->words,

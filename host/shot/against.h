@@ -20,7 +20,6 @@ enum { MOST_DIFFERENCES = LCD_FIELDS + 3 + LCD_REGISTERS + 4 };
 struct against {
     struct difference fields[MOST_DIFFERENCES];
     int field_count;
-    int palette_count; /* palette entries that differ */
     size_t common;     /* words of memory that both have by their addresses */
     size_t words;      /* those of them that differ, and the first one's address and contents */
     uint64_t first;
@@ -30,6 +29,8 @@ struct against {
 };
 
 void against_find(struct against *a, const struct shot *old, const struct shot *now);
+
+bool palette_differs(const struct shot *old, const struct shot *now, int entry);
 
 void against_say(const struct against *a, const struct shot *old, const struct shot *now);
 

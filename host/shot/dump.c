@@ -38,6 +38,7 @@ static bool take_tail(struct dump *d, const struct bytes *b) {
 uint32_t dump_take(struct dump *d, const struct bytes *b) {
     d->video = NULL;
     d->source = FROM_FILE;
+    d->no_palette = false;
     if (b->length < HEAD || !take_tail(d, b))
         return 14;
     for (int i = 0; i < LCD_REGISTERS; i++)

@@ -242,7 +242,7 @@ static void put_difference(const struct difference *d) {
 static void put_palette(const struct shot *old, const struct shot *now) {
     open("palette", "[");
     for (int i = 0; i < LCD_PALETTE_ENTRIES; i++) {
-        if (old->dump.palette[i] == now->dump.palette[i])
+        if (!palette_differs(old, now, i))
             continue;
         open(NULL, "{");
         number("entry", (uint64_t)i);

@@ -71,6 +71,7 @@ static void take_words(struct shot *s, const struct options *o) {
         d->words[i] = hexadecimal_of("--words", register_names[i], o->words[i]);
     d->hclk = o->hclk ? decimal_of("--hclk", "HCLK", o->hclk, UINT32_MAX) : 0;
     d->source = o->memory ? FROM_WORDS : WORDS_ALONE;
+    d->no_palette = !o->palette;
     if (o->memory) {
         d->window_start = hexadecimal_of("--start", "the address", o->start);
         take_memory(d, o);

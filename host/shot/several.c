@@ -74,6 +74,10 @@ static void say_line(const struct shot *s, int width) {
         say("  differs: %zu of %zu pixels", s->comparison.differ, s->comparison.all);
     else if (s->compared)
         say("  differs in size");
+    if (!s->refusal && !s->readings.fields[LCD_PWREN])
+        say("  dark: PWREN is 0");
+    if (!s->refusal && s->readings.fields[LCD_INVVD])
+        say("  negative: INVVD is 1");
     say("\n");
 }
 

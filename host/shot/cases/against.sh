@@ -47,3 +47,14 @@ same "$status: $(cut -d, -f1 err)" '2: lcdshot: short.dump: the input has under 
 gives 0 'clocks 91280 hclk 912800 mhz 109553' - --against "$td.dump" < "$td.dump"
 gives 0 'clocks 91280 hclk 912800 mhz 109553' --words $t9 --hclk 100000000 --memory <(tail -c +557 "$td.dump") --start 30000000 \
     --against "$td.dump"
+
+# words beside a dump: their registers, and HCLK where it is given
+gives 0 'clocks 91280 hclk 912800 mhz 0' --words $t9 --against "$td.dump"
+gives 0 'clocks 91280 hclk 912800 mhz 109553' --words $t9 --hclk 100000000 --against "$td.dump"
+gives 1 'clocks 91280 hclk 912800 mhz 146070' --words $t9 --hclk 133333333 --against "$td.dump"
+gives 1 'clocks 91280 hclk 912800 mhz 0' --words 479 14fc041 98ef09 9 b08 18000000 12c00 f0 0 --against "$td.dump"
+same "$(sed -n '/^differs/,$p' out | sed 's/   */  /g')" "differs from $td.dump
+  LCDCON5  HWSWP  1, the halves of a word exchanged  ->  0, half-words in their order" 'words beside a dump'
+run --words $(od -An -v -tx4 -N 36 "$examples/lq035q1dg06-8.dump" | xargs) --hclk 100000000 --memory <(tail -c +557 "$examples/lq035q1dg06-8.dump") \
+    --start 30000000 --palette <(head -c 555 "$examples/lq035q1dg06-8.dump" | tail -c 511; printf '\x12') --against "$examples/lq035q1dg06-8.dump"
+same "$status $(grep -c 'palette' out)" '1 1' 'a palette given with words'

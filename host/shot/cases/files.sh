@@ -60,12 +60,14 @@ timeout 10 cat pipe > through.png &
 run "$td.dump" -o pipe
 wait || true
 same "$status $(stat -c %F pipe) $(cmp through.png plain.png 2>&1)" '0 fifo ' 'a picture to a FIFO'
+# devices of the cases' own, and not those of /dev: a tool that replaces what stands at the path would take them away
 mknod device c 1 3 2> /dev/null && {
     run "$td.dump" -o device
     same "$status $(stat -c %F device)" '0 character special file' 'a picture to a device'
+    mknod full c 1 7
+    run "$td.dump" -o full
+    same "$status $(cat err)" '2 lcdshot: full: No space left on device' 'a picture to a full device'
 }
-run "$td.dump" -o /dev/full
-same "$status $(cat err)" '2 lcdshot: /dev/full: No space left on device' 'a picture to a full device'
 fresh
 run "$td.dump" -o link.png
 same "$status $(readlink link.png) $(cmp g.png plain.png 2>&1)" '0 g.png ' 'a picture through a symbolic link'
@@ -94,8 +96,10 @@ same "$(cmp plain.png "$td.png" 2>&1)" '' 'another name of a replaced file keeps
 "$shot" "$td.dump" -o - > through.png 2> err
 same "$(cmp through.png plain.png 2>&1) $(cat err)" ' clocks 91280 hclk 912800 mhz 109553
 109.553 Hz, 10.000 MHz pixel clock' 'a picture to standard output, the text to standard error'
-"$shot" "$td.dump" -o /dev/stdout 2> err | cat > through.png
-same "$(cmp through.png plain.png 2>&1) $(head -n 1 err)" ' clocks 91280 hclk 912800 mhz 109553' 'standard output by its other name'
+ln -s /proc/self/fd/1 stdout
+"$shot" "$td.dump" -o stdout 2> err | cat > through.png
+same "$(cmp through.png plain.png 2>&1) $(readlink stdout) $(head -n 1 err)" ' /proc/self/fd/1 clocks 91280 hclk 912800 mhz 109553' \
+    'standard output by its other name'
 run swap.dump --compare "$td.png" --differences seen.png
 "$shot" swap.dump --compare "$td.png" --differences - 2> err > through.png || true
 same "$(cmp through.png seen.png 2>&1) $(grep -c differs: err)" ' 1' 'differences to standard output'

@@ -37,6 +37,9 @@ run td.dump --golden-dir goldens
 same "$status $(sed 's/.*accepted  //' out)" '1 differs: 1 of 76800 pixels' 'a pixel'
 run td.dump --golden-dir goldens --tolerance 8
 same "$status $(sed 's/.*accepted  //' out)" '0 equal' 'a pixel within the tolerance'
+patch "$td.dump" 16 ^0x88 > dark.dump && cp "$td.png" goldens/dark.png
+run dark.dump --golden-dir goldens
+same "$status $(sed 's/.*accepted  //' out)" '0 equal  dark: PWREN is 0  negative: INVVD is 1' 'an equal picture on a dark glass'
 cp "$td.dump" $'two\nlines.dump'
 run $'two\nlines.dump' short.dump
 same "$(wc -l < out)" 2 'a name with a line feed stays on its line'
