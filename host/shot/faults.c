@@ -378,9 +378,13 @@ static const struct cure *quietest(const struct fault *f) {
     return c ? c : f->cure_count ? &f->cures[0] : NULL;
 }
 
-static void note_changes(struct cure *made, const struct cure *c) {
-    for (int i = 0; i < c->count && made->count < MOST_CHANGES; i++)
-        add_change(made, c->changes[i].field, c->changes[i].number);
+/* Notes a change that is made; a field that was changed before has one number still. */
+static void note_change(struct cure *made, const struct change *c) {
+    int at = 0;
+    while (at < made->count && made->changes[at].field != c->field)
+        at++;
+    made->changes[at] = *c;
+    made->count += at == made->count;
 }
 
 /* Cures a fault in the words that are judged, or lends what the picture needs. Returns false where there is no way. */
@@ -395,10 +399,9 @@ static bool cure_made(struct judging *j, const struct fault *f) {
     }
     if (f->refusal == 1)
         words_cleared(j->dump.words, j->dump.words), j->cleared = true;
-    if (c) {
-        apply(c, j->dump.words);
-        note_changes(&j->made, c);
-    }
+    for (int i = 0; c && i < c->count; i++)
+        note_change(&j->made, &c->changes[i]);
+    apply(&j->made, j->dump.words);
     readings_ask(&j->now, &j->dump);
     return c || f->refusal == 1;
 }

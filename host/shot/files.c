@@ -294,8 +294,8 @@ static mode_t usual_rights(void) {
 static void put_all(int descriptor, const char *path, const struct bytes *b) {
     for (size_t done = 0; done < b->length;) {
         ssize_t put = write(descriptor, b->at + done, b->length - done);
-        if (put < 0 && errno != EINTR)
-            fail(path, strerror(errno));
+        if (put == 0 || (put < 0 && errno != EINTR))
+            fail(path, put ? strerror(errno) : "it takes nothing");
         done += put < 0 ? 0 : (size_t)put;
     }
 }

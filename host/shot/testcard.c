@@ -74,7 +74,8 @@ static uint32_t set_clock(uint32_t *fields, uint32_t *words) {
     bool known = fields[LCD_HOZVAL] == panels[0].width - 1 && fields[LCD_LINEVAL] == panels[0].height - 1;
     for (uint32_t clkval = 0; clkval < 1024 && !known; clkval++) {
         fields[LCD_CLKVAL] = clkval;
-        if ((refusal = lcd_write_fields(fields, LCD_FIELDS, words, LCD_REGISTERS)) || (refusal = lcd_counts(words, LCD_REGISTERS, HCLK, counts, 3)))
+        if ((refusal = lcd_write_fields(fields, LCD_FIELDS, words, LCD_REGISTERS)) ||
+            (refusal = lcd_counts(words, LCD_REGISTERS, HCLK, counts, 3)))
             return refusal;
         if (apart(counts[2], USUAL_MILLIHERTZ) < best)
             best = apart(counts[2], USUAL_MILLIHERTZ), chosen = clkval;
