@@ -77,10 +77,10 @@ static void say_fault(const struct fault *f) {
         say_then(f->then);
         say("\n");
     }
-    for (int i = 0; i < f->cure_count; i++) {
-        cure_text(&f->cures[i], text, sizeof text);
+    for (int i = 0; i < f->cures.count; i++) {
+        cure_text(&f->cures.at[i], text, sizeof text);
         say("             lifted by %s", text);
-        say_then(f->cures[i].then);
+        say_then(f->cures.at[i].then);
         say("\n");
     }
 }
@@ -161,7 +161,7 @@ static void say_rest(const struct cure *c) {
 
 /* The mark at a field that alone lifts a fault, or with others. */
 static void say_mark(const struct fault *f, int field) {
-    const struct cure *c = fault_cure(f, field);
+    const struct cure *c = cure_by(&f->cures, field);
     if (!c)
         return;
     say("  <- refused %" PRIu32 "; lifted by %" PRIu32, f->refusal, c->changes[0].number);

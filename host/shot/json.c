@@ -113,10 +113,10 @@ static void put_fault(const struct fault *f) {
     if (f->refusal == 1)
         number("then_cleared", f->then);
     open("lifted_by", "[");
-    for (int i = 0; i < f->cure_count; i++) {
+    for (int i = 0; i < f->cures.count; i++) {
         open(NULL, "{");
-        put_changes("set", &f->cures[i]);
-        number("then", f->cures[i].then);
+        put_changes("set", &f->cures.at[i]);
+        number("then", f->cures.at[i].then);
         close("}");
     }
     close("]");

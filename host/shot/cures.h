@@ -1,0 +1,39 @@
+/* The numbers that lift a refusal, each asked of the library. */
+#ifndef CURES_H
+#define CURES_H
+
+#include <stdbool.h>
+#include <stdint.h>
+#include "asking.h"
+
+struct change {
+    int field;
+    uint32_t number;
+};
+
+enum { MOST_CHANGES = 12, MOST_CURES = 5 };
+
+/* Fields set to other numbers, and what the library says then: 0, or the next refusal. */
+struct cure {
+    struct change changes[MOST_CHANGES];
+    int count;
+    uint32_t then;
+    uint32_t beyond; /* where the swaps are refused next: what follows without them */
+};
+
+/* Those that end in 0 first, else those that go furthest. */
+struct cures {
+    struct cure at[MOST_CURES];
+    int count;
+};
+
+/* The cures of the refusal from 2 to 9 that the words draw: of each field that its condition names the nearest number that goes
+ * furthest; where no field alone will do, several together. */
+void cures_find(struct cures *c, const struct judging *j, uint32_t refusal);
+
+/* The cure that begins with this field, or NULL. */
+const struct cure *cure_by(const struct cures *c, int field);
+
+void cure_apply(const struct cure *c, uint32_t *words);
+
+#endif

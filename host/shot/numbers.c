@@ -1,0 +1,127 @@
+/* The arithmetic of a refusal. */
+#include "numbers.h"
+#include <inttypes.h>
+#include <stdarg.h>
+#include <stdio.h>
+#include <string.h>
+
+static void add_text(char *to, size_t room, const char *format, ...) {
+    size_t at = strlen(to);
+    va_list arguments;
+    va_start(arguments, format);
+    vsnprintf(to + at, room - at, format, arguments);
+    va_end(arguments);
+}
+
+void bits_text(uint32_t mask, char *to, size_t room) {
+    bool one = !(mask & (mask - 1)), first = true;
+    snprintf(to, room, "bit%s ", one ? "" : "s");
+    for (int high = WORD_BITS - 1, low; high >= 0; high = low - 1) {
+        for (low = high; low > 0 && (mask >> low & 1) && (mask >> (low - 1) & 1); low--)
+            ;
+        if (!(mask >> high & 1))
+            continue;
+        add_text(to, room, high == low ? "%s%d" : "%s%d..%d", first ? "" : ", ", high, low);
+        first = false;
+    }
+    add_text(to, room, one ? " is" : " are");
+}
+
+bool bank_bits_left(const uint32_t *words, int word) {
+    const struct layout *l = layout_asked();
+    int bank = l->word[LCD_LCDBANK];
+    uint32_t mask = l->most[LCD_LCDBANK] << l->low[LCD_LCDBANK], set = words[word] & l->reserved[word];
+    return word == l->word[LCD_LCDBASEL] && set && set == (words[bank] & mask);
+}
+
+static void reserved_numbers(const uint32_t *words, char *to) {
+    const struct layout *l = layout_asked();
+    char bits[100];
+    for (int word = 0; word < LCD_REGISTERS; word++) {
+        uint32_t set = words[word] & l->reserved[word];
+        if (!set)
+            continue;
+        bits_text(set, bits, sizeof bits);
+        add_text(to, NUMBERS, "%s%s = 0x%08" PRIx32 ": reserved %s set%s; cleared, the word is 0x%08" PRIx32, *to ? "; " : "",
+                 register_names[word], words[word], bits,
+                 bank_bits_left(words, word) ? " (LCDBANK's, as Linux's driver leaves them)" : "", words[word] & ~set);
+    }
+}
+
+uint32_t picture_end(const uint32_t *f) {
+    uint64_t pitch = f[LCD_PAGEWIDTH] + f[LCD_OFFSIZE];
+    return (f[LCD_LCDBASEU] + pitch * (f[LCD_LINEVAL] + 1)) & layout_asked()->most[LCD_LCDBASEL];
+}
+
+static void row_numbers(const struct readings *r, char *to) {
+    static const int even[] = {LCD_LCDBASEU, LCD_PAGEWIDTH, LCD_OFFSIZE};
+    uint64_t page = 16 * (uint64_t)r->fields[LCD_PAGEWIDTH];
+    uint64_t row = (uint64_t)r->sizes[LCD_SIZE_WIDTH] * r->sizes[LCD_SIZE_STORED_BITS];
+    if (page != row)
+        add_text(to, NUMBERS, "16 x PAGEWIDTH = %" PRIu64 ", W x S = %" PRIu64, page, row);
+    for (int i = 0; i < 3; i++)
+        if (r->fields[even[i]] % 2)
+            add_text(to, NUMBERS, "%s%s = %" PRIu32 " is odd", *to ? "; " : "", field_name(even[i]), r->fields[even[i]]);
+}
+
+static void bank_numbers(const struct readings *r, char *to) {
+    const uint32_t *f = r->fields;
+    uint64_t end = f[LCD_LCDBASEU] + (uint64_t)f[LCD_LINEVAL] * (f[LCD_PAGEWIDTH] + f[LCD_OFFSIZE]) + f[LCD_PAGEWIDTH];
+    uint64_t bank = (uint64_t)layout_asked()->most[LCD_LCDBASEU] + 1;
+    add_text(to, NUMBERS, "LCDBASEU + (H - 1) x (PAGEWIDTH + OFFSIZE) + PAGEWIDTH = %" PRIu64 ", 2^21 = %" PRIu64 ": %" PRIu64
+             " half-words too far", end, bank, end - bank);
+}
+
+static const char *bytes_are(uint64_t count) { return count == 1 ? "byte is" : "bytes are"; }
+
+static void add_missing(char *to, uint64_t count, const char *side) {
+    if (count)
+        add_text(to, NUMBERS, ", %" PRIu64 " %s missing %s", count, bytes_are(count), side);
+}
+
+/* 8: what the picture needs beside what there is. */
+static void memory_numbers(const struct dump *d, char *to) {
+    const char *what = d->source == FROM_FILE ? "the dump's video memory" : "the memory given";
+    uint64_t from = d->window_start, past = from + 4 * (uint64_t)d->video_len, needed_past;
+    uint32_t first = 0, last = 0;
+    if (d->window_start % 4)
+        add_text(to, NUMBERS, "%s starts at 0x%08" PRIx64 ", which is no multiple of 4; ", what, from);
+    memory_needed(d->words, &first, &last);
+    needed_past = (uint64_t)last + 1;
+    add_text(to, NUMBERS, "the picture needs 0x%08" PRIx32 " to 0x%08" PRIx32, first, last);
+    if (!d->video_len) {
+        add_text(to, NUMBERS, ", %s has no bytes, %" PRIu64 " are missing", what, needed_past - first);
+        return;
+    }
+    add_text(to, NUMBERS, ", %s is 0x%08" PRIx64 " to 0x%08" PRIx64, what, from, past - 1);
+    add_missing(to, first < from ? (needed_past < from ? needed_past : from) - first : 0, "before its start");
+    add_missing(to, needed_past > past ? needed_past - (first > past ? first : past) : 0, "behind its end");
+}
+
+void refusal_numbers(const struct judging *j, uint32_t refusal, char *to) {
+    const struct readings *r = &j->now;
+    const uint32_t *f = r->fields;
+    char meaning[MEANING];
+    switch (refusal) {
+    case 1: reserved_numbers(j->dump.words, to); break;
+    case 2:
+    case 3:
+    case 9: {
+        int field = refusal == 2 ? LCD_PNRMODE : refusal == 3 ? LCD_BPPMODE : LCD_ENVID;
+        field_meaning(r, field, meaning);
+        add_text(to, NUMBERS, "%s = %" PRIu32 ", %s", field_name(field), f[field], meaning);
+        break;
+    }
+    case 4:
+        mode_meaning(r->sizes[LCD_SIZE_STORED_BITS], meaning);
+        add_text(to, NUMBERS, "BSWP = %" PRIu32 ", HWSWP = %" PRIu32 " with %s", f[LCD_BSWP], f[LCD_HWSWP], meaning);
+        break;
+    case 5: row_numbers(r, to); break;
+    case 6:
+        add_text(to, NUMBERS, "LCDBASEL = %" PRIu32 ", LCDBASEU + (PAGEWIDTH + OFFSIZE) x H = %" PRIu32, f[LCD_LCDBASEL],
+                 picture_end(f));
+        break;
+    case 7: bank_numbers(r, to); break;
+    case 8: memory_numbers(&j->dump, to); break;
+    }
+}
