@@ -118,8 +118,8 @@ void refusal_numbers(const struct judging *j, uint32_t refusal, char *to) {
         break;
     case 5: row_numbers(r, to); break;
     case 6:
-        add_text(to, NUMBERS, "LCDBASEL = %" PRIu32 ", LCDBASEU + (PAGEWIDTH + OFFSIZE) x H = %" PRIu32, f[LCD_LCDBASEL],
-                 picture_end(f));
+        add_text(to, NUMBERS, "LCDBASEL = %" PRIu32 ", LCDBASEU + (PAGEWIDTH + OFFSIZE) x H = %" PRIu32 " modulo 2^21",
+                 f[LCD_LCDBASEL], picture_end(f));
         break;
     case 7: bank_numbers(r, to); break;
     case 8: memory_numbers(&j->dump, to); break;
