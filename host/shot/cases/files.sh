@@ -109,7 +109,7 @@ gives 0 'clocks 91280 hclk 912800 mhz 109553' "$td.dump" --compare - < "$td.png"
 gives 2 'lcdshot: -: standard input can be read once; see lcdshot --help' - --compare - < "$td.png"
 gives 2 'lcdshot: -: standard input can be read once; see lcdshot --help' - --against - < "$td.dump"
 status=0
-script -qec "$shot '$td.dump' -o -" /dev/null > out 2>&1 || status=$?
+script -qec "$shot '$td.dump' -o -" /dev/null < /dev/null > out 2>&1 || status=$?
 same "$status $(grep -c 'standard output: a terminal' out)" '2 1' 'no picture to a terminal'
 
 # ---- a lost line is noticed on every path

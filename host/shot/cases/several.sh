@@ -45,7 +45,7 @@ run $'two\nlines.dump' short.dump
 same "$(wc -l < out)" 2 'a name with a line feed stays on its line'
 
 # a line that says how far it is, on a terminal alone
-script -qec "'$shot' td035sted4-16.dump stn.dump" /dev/null > typed 2>&1 || true
+script -qec "'$shot' td035sted4-16.dump stn.dump" /dev/null < /dev/null > typed 2>&1 || true
 same "$(grep -c '1 of 2: td035sted4-16.dump' typed) $(grep -c '2 of 2: stn.dump' typed)" '1 1' 'a progress line on a terminal'
 
 # ---- JSON
