@@ -11,26 +11,22 @@
 #include <sys/stat.h>
 #include <unistd.h>
 
-FILE *report;
+/* Where the report goes; NULL is standard output. */
+static FILE *report;
 
 /* The file that is being written, beside its place; NULL where there is none. */
 static char *beside;
 
 /* ---- the report, and errors */
 
-/* A stream that the caller closed is opened the wrong way round, so that using it is an error and no file gets its number. */
-void streams_ready(void) {
-    static const int modes[3] = {O_WRONLY, O_RDONLY, O_RDONLY};
-    for (int i = 0; i < 3; i++)
-        if (fcntl(i, F_GETFD) < 0 && open("/dev/null", modes[i]) != i)
-            _exit(2);
-    report = stdout;
-}
+static FILE *report_stream(void) { return report ? report : stdout; }
+
+static const char *report_name(void) { return report ? "standard error" : "standard output"; }
 
 void say(const char *format, ...) {
     va_list arguments;
     va_start(arguments, format);
-    vfprintf(report, format, arguments);
+    vfprintf(report_stream(), format, arguments);
     va_end(arguments);
 }
 
@@ -54,8 +50,8 @@ void misuse(const char *what, const char *why) { end_with_2(what, why, "; see lc
 
 void report_flush(void) {
     errno = 0;
-    if (fflush(report) || ferror(report))
-        fail(report == stdout ? "standard output" : "standard error", errno ? strerror(errno) : "can't be written");
+    if (fflush(report_stream()) || ferror(report_stream()))
+        fail(report_name(), errno ? strerror(errno) : "can't be written");
 }
 
 void finish(int status) {
@@ -229,8 +225,8 @@ static void apart_from_inputs(const char *output, const struct place *p, const c
 /* The report's own stream is an output too, where it goes to a file. */
 static void report_apart(const char *const *inputs, size_t count) {
     struct place p = {.is_new = false};
-    if (fstat(fileno(report), &p.file) == 0 && S_ISREG(p.file.st_mode))
-        apart_from_inputs(report == stdout ? "standard output" : "standard error", &p, inputs, count);
+    if (fstat(fileno(report_stream()), &p.file) == 0 && S_ISREG(p.file.st_mode))
+        apart_from_inputs(report_name(), &p, inputs, count);
 }
 
 static void apart_from_outputs(const char *output, const struct place *p, const char *const *others, size_t count) {
@@ -244,8 +240,8 @@ static void apart_from_outputs(const char *output, const struct place *p, const 
             fail_same(output, others[i], "the output");
         place_free(&other);
     }
-    if (!p->is_new && S_ISREG(p->file.st_mode) && fstat(fileno(report), &stream) == 0 && same_inode(&p->file, &stream))
-        fail_same(output, report == stdout ? "standard output" : "standard error", "the report on");
+    if (!p->is_new && S_ISREG(p->file.st_mode) && fstat(fileno(report_stream()), &stream) == 0 && same_inode(&p->file, &stream))
+        fail_same(output, report_name(), "the report on");
 }
 
 void outputs_apart(const char *const *inputs, size_t input_count, const char *const *outputs, size_t output_count) {

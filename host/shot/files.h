@@ -9,12 +9,7 @@
 
 /* ---- the report, and errors */
 
-/* Where the report goes: standard output, or standard error where a picture or a dump goes to standard output. */
-extern FILE *report;
-
-/* Keeps the three standard streams apart from the files opened later, also where the caller closed one. First of all. */
-void streams_ready(void);
-
+/* Prints a part of the report: to standard output, or to standard error where a picture or a dump goes to standard output. */
 void say(const char *format, ...) __attribute__((format(printf, 1, 2)));
 
 /* Says what is wrong with a file (or another thing) on standard error and ends the program with 2. A file that is being written is

@@ -196,10 +196,8 @@ static void keep_apart(const struct options *o) {
 }
 
 int main(int argc, char **argv) {
-    struct options o;
+    struct options o = options_read(argc, argv);
     int status;
-    streams_ready();
-    o = options_read(argc, argv);
     keep_apart(&o);
     status = o.card[0] ? make_card(&o) : options_several(&o) ? several_show(&o) : show(&o);
     free(o.dumps);

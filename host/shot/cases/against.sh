@@ -39,6 +39,8 @@ gives 1 'clocks 91280 hclk 912800 mhz 109553' earlier.dump --against "$td.dump"
 same "$(sed -n '/^differs/,$p' out | sed 's/   */  /g')" "differs from $td.dump
   window start 805306368, 0x30000000  ->  805306364, 0x2ffffffc
   memory  1 word in the new dump alone" 'the same memory, a word earlier'
+gives 1 'clocks 91280 hclk 912800 mhz 109553' "$td.dump" --against earlier.dump
+same "$(sed -n '/^differs/,$p' out | tail -n +3 | sed 's/   */  /g')" '  memory  1 word in the old dump alone' 'and the other way round'
 
 gives 2 'lcdshot: no.dump: No such file or directory' "$td.dump" --against no.dump
 head -c 100 "$td.dump" > short.dump

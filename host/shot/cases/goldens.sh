@@ -74,6 +74,12 @@ says 'largest distance 8 of 255, tolerance 7' 'a tolerance too small'
 gives 0 'clocks 91280 hclk 912800 mhz 109553' two.dump --compare g.png --tolerance 8 --differences none.png
 says 'equal: 76800 pixels within a tolerance of 8, largest distance 8' 'within the tolerance'
 same "$(files 'none*')" '' 'no differences within the tolerance'
+# T1 with one pixel a step away and one far away: within a tolerance of 1 the first is dimmed and not white
+png t1 iVBORw0KGgoAAAANSUhEUgAAAAEAAAACCAIAAAAW4yFwAAAAEElEQVR4nGMQVDJmWLX7DAAGigKYfWEGHgAAAABJRU5ErkJggg==
+{ head -c 556 "$t1"; printf '\x34\x22\x11\x00\x00\xbb\xaa\x00'; } > near-and-far.dump
+run near-and-far.dump --compare t1.png --tolerance 1 --differences far.png
+{ head -c 556 "$t1"; printf '\x0d\x08\x04\x00\xff\xff\xff\x00'; } > far.dump
+gives 0 'clocks 20 hclk 40 mhz 25000' far.dump --compare far.png
 gives 2 'lcdshot: --tolerance: the distance 256 is above 255; see lcdshot --help' two.dump --compare g.png --tolerance 256
 gives 2 'lcdshot: --tolerance: --compare or --golden-dir is missing; see lcdshot --help' two.dump --tolerance 1
 
@@ -91,7 +97,6 @@ neighbour 'equal with FRM565 1' format.dump --compare g.png
 patch "$examples/lq035q1dg06-8.dump" 16 ^2 > bytes.dump
 neighbour 'equal with BSWP 1' bytes.dump --compare "$examples/lq035q1dg06-8.png"
 { head -c 16 "$t1"; printf '\x00\x10'; tail -c +19 "$t1"; } > high.dump
-png t1 iVBORw0KGgoAAAANSUhEUgAAAAEAAAACCAIAAAAW4yFwAAAAEElEQVR4nGMQVDJmWLX7DAAGigKYfWEGHgAAAABJRU5ErkJggg==
 neighbour 'equal with BPP24BL 0' high.dump --compare t1.png
 neighbour 'not equal with another HWSWP, BSWP, BPP24BL or FRM565 either, nor with LCDBASEU a row less or more' two.dump --compare g.png
 # T1 with a row more of memory, its view a row down: LCDBASEU 2 and LCDBASEL 6; then back again

@@ -25,6 +25,9 @@ HOZVAL 18..8 0 1 pixel a row, the width <- refused 5; lifted by 1, then refused 
 LCDBASEU 20..0 0 A21..1 of the first row: bank + 0x000000 <- refused 6; lifted by 2097148, then refused 7
 LCDBASEL 20..0 4 A21..1 past the last row: bank + 0x000008 <- refused 6; lifted by 8, then refused 8
 PAGEWIDTH 10..0 4 half-words a row <- refused 5; lifted by 2, then accepted"
+same "$(sed -n '/^  refused 6/,/^  refused 8/p' out | sed -n 's/^ *lifted by //p')" "LINEVAL 0, then accepted
+LCDBASEL 8, then refused 8
+LCDBASEU 2097148, then refused 7" 'those that go further go first'
 refused 5 20 0x01 'LCDBASEU 20..0 1 A21..1 of the first row: bank + 0x000002 <- refused 5; lifted by 0, then accepted'
 says 'LCDBASEU = 1 is odd' 'the arithmetic of 5: an odd number'
 refused 6 24 0x06 "LINEVAL 23..14 1 2 rows, the height <- refused 6; lifted by 2, then refused 8
@@ -86,6 +89,8 @@ all_faults '478 14fc041 98ef09 9 b09 181ffffe 12bfe f0 0' '7 9'
 all_faults '479 14fc041 98ef09 9 b09 20000000 12c00 f0 0' 8
 says "the picture needs 0x40000000 to 0x400257ff, the dump's video memory is 0x30000000 to 0x300257ff, 153600 bytes are missing behind its end" \
     'a view far behind the memory'
+all_faults '478 14fc041 98ef09 9 b09 20000000 12c00 f0 0' '8 9'
+says 'judged with the memory that is needed' 'what 9 is judged with behind 8'
 all_faults '479 14fc041 98ef09 9 b09 10000000 12c00 f0 0' 8
 says '153600 bytes are missing before its start' 'a view far before the memory'
 # a width of 241, an odd LCDBASEU and an odd OFFSIZE: no field alone will do
