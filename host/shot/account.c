@@ -8,19 +8,18 @@ enum { CURE_TEXT = 300 };
 
 /* ---- a line or two */
 
-void account_counts(const struct dump *d) {
+void account_counts(const struct readings *r) {
+    const struct dump *d = r->dump;
     uint64_t counts[3] = {0};
-    struct readings r;
     char frame[MEANING], clock[MEANING];
     lcd_counts(d->words, LCD_REGISTERS, d->hclk, counts, 3);
     say("clocks %" PRIu64 " hclk %" PRIu64 " mhz %" PRIu64 "\n", counts[0], counts[1], counts[2]);
-    readings_ask(&r, d);
     rate_text(counts[2], frame);
-    rate_text(millihertz_of(d->hclk, r.sizes[LCD_SIZE_TICKS]), clock);
+    rate_text(millihertz_of(d->hclk, r->sizes[LCD_SIZE_TICKS]), clock);
     if (d->hclk)
         say("%s, %s pixel clock\n", frame, clock);
     else
-        say("no rate: HCLK is 0\n");
+        say("no rate: HCLK is %s\n", d->no_hclk ? "not given" : "0");
 }
 
 const char *account_glass(const struct readings *r) {
@@ -57,14 +56,19 @@ void account_refusal(const struct faults *f) {
     say("refused %" PRIu32 "\n%s\n%s\n", f->at[0].refusal, lcd_refusal_text(f->at[0].refusal), f->at[0].numbers);
 }
 
-/* With which cures of the faults before it a fault is judged. */
-static void say_with(const struct fault *f) {
+/* What else a fault is judged with: reserved bits cleared, these changes, the memory that is needed. */
+static void with_text(const struct fault *f, const struct cure *changes, char *to) {
     char text[CURE_TEXT];
-    cure_text(&f->with, text, sizeof text);
-    if (f->cleared || f->lent || f->with.count)
-        say("             judged with %s%s%s%s%s\n", f->cleared ? "reserved bits cleared" : "",
-            f->cleared && f->with.count ? ", " : "", text, f->lent && (f->cleared || f->with.count) ? ", " : "",
-            f->lent ? "the memory that is needed" : "");
+    cure_text(changes, text, sizeof text);
+    snprintf(to, 2 * CURE_TEXT, "%s%s%s%s%s", f->cleared ? "reserved bits cleared" : "", f->cleared && *text ? ", " : "", text,
+             f->lent && (f->cleared || *text) ? ", " : "", f->lent ? "the memory that is needed" : "");
+}
+
+static void say_with(const struct fault *f) {
+    char text[2 * CURE_TEXT];
+    with_text(f, &f->with, text);
+    if (*text)
+        say("             judged with %s\n", text);
 }
 
 static void say_fault(const struct fault *f) {
@@ -72,6 +76,8 @@ static void say_fault(const struct fault *f) {
     say("  refused %" PRIu32 "  %s\n", f->refusal, lcd_refusal_text(f->refusal));
     say("             %s\n", f->numbers);
     say_with(f);
+    if (f->hangs)
+        say("             hangs on refused %" PRIu32 ": look again when that is lifted\n", f->hangs);
     if (f->refusal == 1) {
         say("             lifted by clearing them");
         say_then(f->then);
@@ -118,7 +124,7 @@ static void say_panel(const struct readings *r) {
     say_parts("line", s, "clock", "clocks", LCD_SIZE_LINE, LCD_SIZE_HSYNC, LCD_SIZE_WIDTH);
     say_parts("frame", s, "line", "lines", LCD_SIZE_FRAME, LCD_SIZE_VSYNC, LCD_SIZE_HEIGHT);
     if (!r->dump->hclk) {
-        say("HCLK        0 Hz, no rates\n");
+        say("HCLK        %s, no rates\n", r->dump->no_hclk ? "not given" : "0 Hz");
         return;
     }
     say("HCLK        %" PRIu32 " Hz\n", r->dump->hclk);
@@ -149,14 +155,17 @@ static void say_part(const struct part *p, uint32_t number) {
     say("  %-10s %-7s %8" PRIu32 "  ", p->name, bits, number);
 }
 
-/* What a cure that begins with this field sets beside it. */
-static void say_rest(const struct cure *c) {
-    struct cure rest = *c;
-    char text[CURE_TEXT];
-    rest.count--;
-    memmove(rest.changes, c->changes + 1, sizeof *c->changes * (size_t)rest.count);
-    cure_text(&rest, text, sizeof text);
-    say("%s%s", rest.count ? " with " : "", text);
+/* What is to be set beside a cure's first field: its other fields, and what the faults before it needed. */
+static void say_rest(const struct fault *f, const struct cure *c) {
+    struct cure rest = {.count = 0};
+    char text[2 * CURE_TEXT];
+    for (int i = 1; i < c->count; i++)
+        rest.changes[rest.count++] = c->changes[i];
+    for (int i = 0; i < f->with.count && rest.count < MOST_CHANGES; i++)
+        if (f->with.changes[i].field != c->changes[0].field)
+            rest.changes[rest.count++] = f->with.changes[i];
+    with_text(f, &rest, text);
+    say("%s%s", *text ? " with " : "", text);
 }
 
 /* The mark at a field that alone lifts a fault, or with others. */
@@ -165,7 +174,7 @@ static void say_mark(const struct fault *f, int field) {
     if (!c)
         return;
     say("  <- refused %" PRIu32 "; lifted by %" PRIu32, f->refusal, c->changes[0].number);
-    say_rest(c);
+    say_rest(f, c);
     say_then(c->then);
 }
 
@@ -179,21 +188,13 @@ static void say_field(const struct readings *r, const struct faults *f, const st
     say("\n");
 }
 
-static void say_reserved(const uint32_t *words, int word) {
-    uint32_t set = words[word] & layout_asked()->reserved[word];
-    char bits[100];
-    if (!set)
-        return;
-    bits_text(set, bits, sizeof bits);
-    say("  <- refused 1; reserved %s set (0x%08" PRIx32 "); cleared, the word is 0x%08" PRIx32 "%s", bits, set, words[word] & ~set,
-        bank_bits_left(words, word) ? "; they are LCDBANK's, as Linux's driver leaves them" : "");
-}
-
 static void say_register(const struct readings *r, const struct faults *f, int word) {
     const struct layout *l = layout_asked();
     const uint32_t *words = r->dump->words;
+    char reserved[NUMBERS];
     say("%s 0x%08" PRIx32, register_names[word], words[word]);
-    say_reserved(words, word);
+    if (reserved_text(words, word, reserved))
+        say("  <- refused 1; %s", reserved);
     say("\n");
     for (int i = 0; i < l->count[word]; i++) {
         const struct part *p = &l->parts[word][i];

@@ -9,7 +9,7 @@
 #include "fields.h"
 
 /* The counts as the bench prints them, and in plain units. */
-void account_counts(const struct dump *d);
+void account_counts(const struct readings *r);
 
 /* What the glass does with the picture where that is not to show it: a text, or NULL. */
 const char *account_glass(const struct readings *r);

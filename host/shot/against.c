@@ -34,7 +34,7 @@ static void add_part(struct against *a, const struct shot *old, const struct sho
 
 /* HCLK that was not given with words is no difference. */
 static void add_clock(struct against *a, const struct shot *old, const struct shot *now) {
-    struct difference *d = now->dump.source != FROM_FILE && !now->dump.hclk ? NULL : add(a, "", "HCLK", old->dump.hclk, now->dump.hclk);
+    struct difference *d = now->dump.no_hclk ? NULL : add(a, "", "HCLK", old->dump.hclk, now->dump.hclk);
     if (!d)
         return;
     rate_text((uint64_t)old->dump.hclk * 1000, d->old_meaning);

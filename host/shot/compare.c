@@ -54,52 +54,69 @@ struct picture comparison_picture(const struct comparison *c, const struct pictu
 
 /* ---- neighbours */
 
-static void try_neighbour(struct comparison *c, const struct dump *d, const uint32_t *words, const struct picture *golden,
-                          const char *name) {
+static void try_neighbour(const struct comparison *c, const struct dump *d, const uint32_t *words, const struct picture *golden,
+                          struct neighbour *n) {
     struct picture p;
     struct comparison other;
-    if (screen_draw(d, words, &p))
+    n->refusal = screen_draw(d, words, &p);
+    if (n->refusal)
         return;
     compare(&other, golden, &p, c->tolerance);
-    if (comparison_equal(&other))
-        snprintf(c->equal_with[c->equal_count++], NEIGHBOUR, "%s", name);
+    n->equal = comparison_equal(&other);
     picture_free(&p);
 }
 
-/* The view a row up or down: LCDBASEU and, as the library refuses it otherwise, LCDBASEL by as much. */
-static void try_row(struct comparison *c, const struct dump *d, const struct readings *r, const struct picture *golden, bool up) {
-    uint32_t words[LCD_REGISTERS], pitch = r->fields[LCD_PAGEWIDTH] + r->fields[LCD_OFFSIZE];
-    uint32_t most = layout_asked()->most[LCD_LCDBASEU], base = r->fields[LCD_LCDBASEU] + (up ? -pitch : pitch);
-    uint32_t end = (r->fields[LCD_LCDBASEL] + (up ? -pitch : pitch)) & layout_asked()->most[LCD_LCDBASEL];
-    char name[NEIGHBOUR];
-    if (base > most)
+static void try_flag(struct comparison *c, const struct readings *r, const struct picture *golden, int field, struct neighbour *n) {
+    uint32_t words[LCD_REGISTERS];
+    memcpy(words, r->dump->words, sizeof words);
+    put_field(words, field, !r->fields[field]);
+    snprintf(n->name, NEIGHBOUR, "%s %d", field_name(field), !r->fields[field]);
+    try_neighbour(c, r->dump, words, golden, n);
+}
+
+/* The view a row up or down: LCDBASEU and, as the library refuses it otherwise, LCDBASEL by as much. There is none outside the bank. */
+static void try_row(struct comparison *c, const struct readings *r, const struct picture *golden, bool up, struct neighbour *n) {
+    uint32_t words[LCD_REGISTERS], pitch = r->fields[LCD_PAGEWIDTH] + r->fields[LCD_OFFSIZE], by = up ? -pitch : pitch;
+    uint32_t base = r->fields[LCD_LCDBASEU] + by, end = (r->fields[LCD_LCDBASEL] + by) & layout_asked()->most[LCD_LCDBASEL];
+    if (base > layout_asked()->most[LCD_LCDBASEU])
         return;
-    memcpy(words, d->words, sizeof words);
+    memcpy(words, r->dump->words, sizeof words);
     put_field(words, LCD_LCDBASEU, base);
     put_field(words, LCD_LCDBASEL, end);
-    snprintf(name, sizeof name, "LCDBASEU %" PRIu32 " and LCDBASEL %" PRIu32 ", a row %s", base, end, up ? "less" : "more");
-    try_neighbour(c, d, words, golden, name);
+    snprintf(n->name, NEIGHBOUR, "LCDBASEU %" PRIu32 " and LCDBASEL %" PRIu32 " (a row %s)", base, end, up ? "less" : "more");
+    try_neighbour(c, r->dump, words, golden, n);
 }
 
 void compare_neighbours(struct comparison *c, const struct dump *d, const struct picture *golden) {
     static const int flags[] = {LCD_HWSWP, LCD_BSWP, LCD_BPP24BL, LCD_FRM565};
-    uint32_t words[LCD_REGISTERS];
     struct readings r;
-    char name[NEIGHBOUR];
     readings_ask(&r, d);
-    for (int i = 0; i < 4; i++) {
-        memcpy(words, d->words, sizeof words);
-        put_field(words, flags[i], !r.fields[flags[i]]);
-        snprintf(name, sizeof name, "%s %d", field_name(flags[i]), !r.fields[flags[i]]);
-        try_neighbour(c, d, words, golden, name);
-    }
-    try_row(c, d, &r, golden, true);
-    try_row(c, d, &r, golden, false);
+    for (int i = 0; i < 4; i++)
+        try_flag(c, &r, golden, flags[i], &c->neighbours[i]);
+    try_row(c, &r, golden, true, &c->neighbours[4]);
+    try_row(c, &r, golden, false, &c->neighbours[5]);
 }
 
 /* ---- in words */
 
 static const char *pixels(size_t count) { return count == 1 ? "pixel" : "pixels"; }
+
+/* The neighbours that give an equal picture; where none does, those that were drawn and those that could not be. */
+static void say_neighbours(const struct comparison *c) {
+    bool any = false;
+    for (int i = 0; i < MOST_NEIGHBOURS; i++)
+        if (c->neighbours[i].equal) {
+            say("equal with %s\n", c->neighbours[i].name);
+            any = true;
+        }
+    for (int i = 0; i < MOST_NEIGHBOURS && !any; i++)
+        if (!c->neighbours[i].name[0])
+            continue;
+        else if (c->neighbours[i].refusal)
+            say("not drawn with %s: refused %" PRIu32 "\n", c->neighbours[i].name, c->neighbours[i].refusal);
+        else
+            say("not equal with %s\n", c->neighbours[i].name);
+}
 
 static void say_differences(const struct comparison *c) {
     say("differs: %zu of %zu %s, first at row %zu, column %zu: golden %06" PRIx32 ", here %06" PRIx32 "\n", c->differ, c->all,
@@ -109,10 +126,7 @@ static void say_differences(const struct comparison *c) {
     if (c->tolerance)
         say(", tolerance %" PRIu32, c->tolerance);
     say("\n");
-    for (int i = 0; i < c->equal_count; i++)
-        say("equal with %s\n", c->equal_with[i]);
-    if (!c->equal_count)
-        say("not equal with another HWSWP, BSWP, BPP24BL or FRM565 either, nor with LCDBASEU a row less or more\n");
+    say_neighbours(c);
 }
 
 void comparison_say(const struct comparison *c, const struct picture *here) {

@@ -10,6 +10,13 @@
 
 enum { MOST_NEIGHBOURS = 6, NEIGHBOUR = 80 };
 
+/* A setting that differs in one field, and what comes of it. */
+struct neighbour {
+    char name[NEIGHBOUR]; /* empty where there is no such setting */
+    uint32_t refusal;     /* where it can't be drawn */
+    bool equal;           /* to the golden picture */
+};
+
 struct comparison {
     uint32_t width, height;               /* of the golden picture */
     bool same_size;                       /* the rest is set where this holds */
@@ -18,8 +25,7 @@ struct comparison {
     uint32_t golden_first, here_first;    /* and its colours */
     uint32_t top, bottom, left, right;    /* the rows and columns that hold all that differ */
     uint32_t largest;                     /* the largest distance of a part, 0 to 255, of any pixel */
-    char equal_with[MOST_NEIGHBOURS][NEIGHBOUR];
-    int equal_count; /* the neighbouring settings that give an equal picture */
+    struct neighbour neighbours[MOST_NEIGHBOURS]; /* where pixels differ */
 };
 
 void compare(struct comparison *c, const struct picture *golden, const struct picture *here, uint32_t tolerance);

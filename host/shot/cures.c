@@ -83,6 +83,15 @@ static struct cure look_outward(const struct judging *j, uint32_t refusal, int f
     return best;
 }
 
+/* The best number of a field; where 5 is about a view and it goes further so, with LCDBASEL moved along. */
+static struct cure best_of(const struct judging *j, uint32_t refusal, int field) {
+    struct cure alone = look_outward(j, refusal, field, false), along;
+    if (refusal != 5 || alone.then != 6 || (field != LCD_LCDBASEU && field != LCD_PAGEWIDTH && field != LCD_OFFSIZE))
+        return alone;
+    along = look_outward(j, refusal, field, true);
+    return goes_further(&along, &alone) ? along : alone;
+}
+
 /* Keeps a cure that lifts the refusal, behind those that go as far. */
 static void keep_cure(struct cures *kept, const struct cure *c) {
     int at = kept->count;
@@ -106,7 +115,7 @@ static void cure_swaps(const struct judging *j, uint32_t refusal, struct cures *
     keep_cure(kept, &best);
 }
 
-/* 5: odd numbers one lower, then the nearest width and the nearest PAGEWIDTH for it. */
+/* 5: odd numbers one lower, then the nearest width and its PAGEWIDTH. */
 static bool cure_row_of_width(const struct judging *j, const struct cure *even, uint32_t hozval, struct cure *best) {
     bool lifted = false;
     for (uint32_t page = 0; page <= layout_asked()->most[LCD_PAGEWIDTH] && !lifted; page++) {
@@ -159,7 +168,7 @@ static void cure_bank(const struct judging *j, uint32_t refusal, struct cures *k
 void cures_find(struct cures *kept, const struct judging *j, uint32_t refusal) {
     kept->count = 0;
     for (int i = 0; i < named[refusal].count; i++) {
-        struct cure c = look_outward(j, refusal, named[refusal].fields[i], false);
+        struct cure c = best_of(j, refusal, named[refusal].fields[i]);
         keep_cure(kept, &c);
     }
     if (kept->count)
@@ -170,4 +179,77 @@ void cures_find(struct cures *kept, const struct judging *j, uint32_t refusal) {
         cure_row(j, refusal, kept);
     if (refusal == 7)
         cure_bank(j, refusal, kept);
+}
+
+/* ---- the quietest cure */
+
+/* Adds a change where the number is another one. */
+static void set_field(struct cure *c, const struct judging *j, int field, uint32_t number) {
+    if (j->now.fields[field] != number)
+        add_change(c, field, number);
+}
+
+/* LCDBASEL by as much as the picture's end moves with the changes so far. */
+static void move_end(struct cure *c, const struct judging *j) {
+    uint32_t fields[LCD_FIELDS], moved;
+    memcpy(fields, j->now.fields, sizeof fields);
+    for (int i = 0; i < c->count; i++)
+        fields[c->changes[i].field] = c->changes[i].number;
+    moved = fields[LCD_LCDBASEL] + picture_end(fields) - picture_end(j->now.fields);
+    set_field(c, j, LCD_LCDBASEL, moved & layout_asked()->most[LCD_LCDBASEL]);
+}
+
+/* The even number beside an odd one: above, or below where that is too wide. */
+static uint32_t evened(int field, uint32_t number) {
+    return number % 2 == 0 ? number : number < layout_asked()->most[field] ? number + 1 : number - 1;
+}
+
+/* A width, in this mode or without swaps in another one, with which 5 is lifted. */
+static struct cure fit_width(const struct judging *j, const struct cure *moved, uint32_t mode) {
+    struct cure best = {.then = 5};
+    for (uint32_t hozval = 0; hozval <= layout_asked()->most[LCD_HOZVAL] && !best.count; hozval++) {
+        struct cure c = *moved;
+        if (mode != j->now.fields[LCD_BPPMODE]) {
+            set_field(&c, j, LCD_BPPMODE, mode);
+            set_field(&c, j, LCD_BSWP, 0);
+            set_field(&c, j, LCD_HWSWP, 0);
+        }
+        set_field(&c, j, LCD_HOZVAL, hozval);
+        try_cure(j, &c, &best);
+    }
+    return best;
+}
+
+static struct cure quiet_row(const struct judging *j, bool *has_moved) {
+    uint32_t page = j->now.fields[LCD_PAGEWIDTH], offsize = j->now.fields[LCD_OFFSIZE];
+    struct cure moved = {.count = 0}, best;
+    set_field(&moved, j, LCD_LCDBASEU, evened(LCD_LCDBASEU, j->now.fields[LCD_LCDBASEU]));
+    set_field(&moved, j, LCD_PAGEWIDTH, page ? evened(LCD_PAGEWIDTH, page) : 2);
+    set_field(&moved, j, LCD_OFFSIZE, offsize - offsize % 2);
+    *has_moved = moved.count;
+    move_end(&moved, j);
+    best = fit_width(j, &moved, j->now.fields[LCD_BPPMODE]);
+    for (uint32_t mode = 0; mode <= layout_asked()->most[LCD_BPPMODE] && !best.count; mode++)
+        best = fit_width(j, &moved, mode);
+    return best;
+}
+
+/* The nearest view inside the bank. */
+static struct cure quiet_view(const struct cures *c, const struct judging *j) {
+    struct cure best = {.then = 7};
+    for (uint32_t base = j->now.fields[LCD_LCDBASEU]; base > 0 && !best.count; base--)
+        try_number(j, LCD_LCDBASEU, base - 1, true, &best);
+    return best.count ? best : c->at[0];
+}
+
+struct cure cure_quietly(const struct cures *c, const struct judging *j, uint32_t refusal, bool *moved) {
+    const struct cure *swap = cure_by(c, LCD_BSWP) ? cure_by(c, LCD_BSWP) : cure_by(c, LCD_HWSWP);
+    *moved = refusal == 7;
+    if (refusal == 4 && swap)
+        return *swap;
+    if (refusal == 5)
+        return quiet_row(j, moved);
+    if (refusal == 6 && cure_by(c, LCD_LCDBASEL))
+        return *cure_by(c, LCD_LCDBASEL);
+    return refusal == 7 ? quiet_view(c, j) : c->at[0];
 }

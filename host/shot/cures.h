@@ -31,6 +31,11 @@ struct cures {
  * furthest; where no field alone will do, several together. */
 void cures_find(struct cures *c, const struct judging *j, uint32_t refusal);
 
+/* The cure with which the next condition is asked for: by fields that no later condition is about, where that will do. Where numbers are
+ * odd, a row has no length or the picture leaves its bank, those are moved no further than needed, and LCDBASEL along, so that 6 holds as
+ * before; `moved` says so. */
+struct cure cure_quietly(const struct cures *c, const struct judging *j, uint32_t refusal, bool *moved);
+
 /* The cure that begins with this field, or NULL. */
 const struct cure *cure_by(const struct cures *c, int field);
 

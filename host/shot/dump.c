@@ -2,6 +2,7 @@
  * bytes; then the video words. */
 #include "dump.h"
 #include <stdlib.h>
+#include "outputs.h"
 
 enum { PALETTE_AT = (LCD_REGISTERS + 2) * 4, HEAD = PALETTE_AT + LCD_PALETTE_ENTRIES * 2 };
 
@@ -38,7 +39,7 @@ static bool take_tail(struct dump *d, const struct bytes *b) {
 uint32_t dump_take(struct dump *d, const struct bytes *b) {
     d->video = NULL;
     d->source = FROM_FILE;
-    d->no_palette = false;
+    d->no_palette = d->no_hclk = false;
     if (b->length < HEAD || !take_tail(d, b))
         return 14;
     for (int i = 0; i < LCD_REGISTERS; i++)
@@ -65,7 +66,7 @@ void dump_write(const struct dump *d, const char *path) {
     put_head(d, b.at);
     for (size_t i = 0; i < d->video_len; i++)
         put_word(b.at + HEAD + 4 * i, d->video[i]);
-    file_write(path, &b);
+    output_write(path, &b);
     free(b.at);
 }
 

@@ -14,7 +14,7 @@ struct dump {
     uint32_t *video;
     size_t video_len;
     enum { FROM_FILE, FROM_WORDS, WORDS_ALONE } source; /* a dump; words with a memory; words without one, so none is judged */
-    bool no_palette;                                    /* none was given with the words */
+    bool no_palette, no_hclk;                           /* none was given with the words */
 };
 
 /* Takes a dump apart. Returns 0, or 14 where it has under 556 bytes or a tail that is no multiple of 4. */

@@ -14,6 +14,7 @@ struct fault {
     char numbers[NUMBERS]; /* the condition's arithmetic */
     struct cure with;      /* the cures of the faults before it, with which this one is judged */
     bool cleared, lent;    /* whether reserved bits were cleared for it too, and whether the memory that is needed was given */
+    uint32_t hangs;        /* on an earlier fault, whose cure moves what it is about: it has no cures before that one is lifted; or 0 */
     struct cures cures;    /* of 2 to 9 */
     uint32_t then;         /* of 1: what follows where the reserved bits are cleared */
 };

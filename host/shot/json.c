@@ -110,6 +110,7 @@ static void put_fault(const struct fault *f) {
     put_changes("judged_with", &f->with);
     truth("reserved_bits_cleared", f->cleared);
     truth("needed_memory_given", f->lent);
+    number("hangs_on", f->hangs);
     if (f->refusal == 1)
         number("then_cleared", f->then);
     open("lifted_by", "[");
@@ -149,6 +150,17 @@ static void put_sizes(const struct readings *r) {
     open("sizes", "{");
     for (int i = 0; i < LCD_SIZES; i++)
         number(names[i], r->sizes[i]);
+    close("}");
+}
+
+/* In millihertz, rounded down. */
+static void put_rates(const struct readings *r) {
+    const uint32_t *s = r->sizes;
+    uint64_t line = (uint64_t)s[LCD_SIZE_TICKS] * s[LCD_SIZE_LINE];
+    open("millihertz", "{");
+    number("vclk", millihertz_of(r->dump->hclk, s[LCD_SIZE_TICKS]));
+    number("line", millihertz_of(r->dump->hclk, line));
+    number("frame", millihertz_of(r->dump->hclk, line * s[LCD_SIZE_FRAME]));
     close("}");
 }
 
@@ -196,6 +208,20 @@ static void put_register(const struct shot *s, int word) {
     close("}");
 }
 
+static void put_neighbours(const struct comparison *c) {
+    open("neighbours", "[");
+    for (int i = 0; i < MOST_NEIGHBOURS; i++) {
+        if (!c->neighbours[i].name[0])
+            continue;
+        open(NULL, "{");
+        text("name", c->neighbours[i].name);
+        number("refusal", c->neighbours[i].refusal);
+        truth("equal", c->neighbours[i].equal);
+        close("}");
+    }
+    close("]");
+}
+
 static void put_comparison(const struct shot *s) {
     const struct comparison *c = &s->comparison;
     open("comparison", "{");
@@ -217,10 +243,7 @@ static void put_comparison(const struct shot *s) {
         number("bottom", c->bottom);
         number("left", c->left);
         number("right", c->right);
-        open("equal_with", "[");
-        for (int i = 0; i < c->equal_count; i++)
-            text(NULL, c->equal_with[i]);
-        close("]");
+        put_neighbours(c);
     }
     close("}");
 }
@@ -296,6 +319,7 @@ static void put_facts(const struct shot *s) {
     put_faults(&s->faults);
     text("glass", account_glass(&s->readings));
     put_sizes(&s->readings);
+    put_rates(&s->readings);
     put_memory(&s->dump);
     open("registers", "[");
     for (int word = 0; word < LCD_REGISTERS; word++)
@@ -316,6 +340,8 @@ void json_shot(const struct shot *s, const struct shot *old, const struct agains
         truth("accepted", !s->refusal);
         number("refusal", s->refusal);
         text("refusal_text", s->refusal ? lcd_refusal_text(s->refusal) : NULL);
+        if (s->dump.source == FROM_FILE)
+            number("bytes", s->bytes);
         if (s->refusal != 14)
             put_facts(s);
     }

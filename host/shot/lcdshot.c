@@ -11,6 +11,7 @@
 #include "files.h"
 #include "json.h"
 #include "options.h"
+#include "outputs.h"
 #include "several.h"
 #include "shot.h"
 #include "testcard.h"
@@ -27,8 +28,8 @@ static int make_card(const struct options *o) {
     if (!testcard_make(&d, numbers[0], numbers[1], numbers[2], why))
         misuse("--testcard", why);
     dump_write(&d, o->output);
-    say("%" PRIu32 " by %" PRIu32 " at %" PRIu32 " bit%s, %s\n", numbers[0], numbers[1], numbers[2], numbers[2] == 1 ? "" : "s",
-        testcard_shows(numbers[2]));
+    say("%" PRIu32 " by %" PRIu32 " at %" PRIu32 " bit%s, %s%s\n", numbers[0], numbers[1], numbers[2], numbers[2] == 1 ? "" : "s",
+        testcard_shows(numbers[2]), numbers[0] < 64 || numbers[1] < 64 ? ", as far as they fit" : "");
     dump_free(&d);
     return 0;
 }
@@ -72,6 +73,7 @@ static void take_words(struct shot *s, const struct options *o) {
     d->hclk = o->hclk ? decimal_of("--hclk", "HCLK", o->hclk, UINT32_MAX) : 0;
     d->source = o->memory ? FROM_WORDS : WORDS_ALONE;
     d->no_palette = !o->palette;
+    d->no_hclk = !o->hclk;
     if (o->memory) {
         d->window_start = hexadecimal_of("--start", "the address", o->start);
         take_memory(d, o);
@@ -85,10 +87,13 @@ static void take_words(struct shot *s, const struct options *o) {
 
 /* ---- a dump */
 
+/* Takes a dump from a file; `s->error` says why where it can't be read. */
 static void take_dump(struct shot *s, const char *path, bool all_faults) {
-    struct bytes b = file_need(path);
+    struct bytes b;
     s->name = path;
-    shot_take(s, &b, all_faults);
+    s->error = file_read(path, &b);
+    if (!s->error)
+        shot_take(s, &b, all_faults);
     free(b.at);
 }
 
@@ -104,7 +109,7 @@ static void say_dump(const struct shot *s, const struct options *o) {
         return;
     }
     if (!s->refusal)
-        account_counts(&s->dump);
+        account_counts(&s->readings);
     else if (o->registers)
         account_faults(&s->faults);
     else
@@ -115,7 +120,7 @@ static void say_dump(const struct shot *s, const struct options *o) {
         account_registers(&s->readings, &s->faults);
 }
 
-/* ---- one dump, or words: all is read and judged, then told, then written */
+/* ---- one dump, or words: all is read and judged, then written, then told */
 
 static void write_outputs(const struct shot *s, const struct options *o) {
     if (options_dump_out(o) && s->refusal != 14)
@@ -129,26 +134,41 @@ static void write_outputs(const struct shot *s, const struct options *o) {
     }
 }
 
+/* The golden picture is read first, and taken when the size is known that it has to have. */
 static void take_golden(struct shot *s, const struct options *o, const struct bytes *golden) {
-    uint32_t tolerance = o->tolerance ? decimal_of("--tolerance", "the distance", o->tolerance, 255) : 0;
-    shot_compare(s, golden, tolerance);
-    if (s->golden_error)
-        fail(o->golden, s->golden_error);
+    if (!s->golden_error)
+        shot_compare(s, golden, options_tolerance(o));
 }
 
 static void take_old(struct shot *old, const struct options *o) {
     take_dump(old, o->against, false);
-    if (old->refusal == 14)
-        fail(o->against, lcd_refusal_text(14));
+    if (old->error || old->refusal == 14)
+        fail(o->against, old->error ? old->error : lcd_refusal_text(14));
+}
+
+static void take_all(struct shot *s, struct shot *old, const struct options *o) {
+    struct bytes golden = {NULL, 0};
+    if (o->golden)
+        s->golden_error = file_read(o->golden, &golden);
+    if (o->against)
+        take_old(old, o);
+    if (o->words[0])
+        take_words(s, o);
+    else
+        take_dump(s, o->dumps[0], o->registers || o->json);
+    if (o->golden)
+        take_golden(s, o, &golden);
+    free(golden.at);
 }
 
 static int tell(const struct shot *s, const struct shot *old, const struct options *o) {
     struct against a;
-    bool beside = o->against && s->refusal != 14;
-    int status;
+    bool beside = o->against && !s->error && s->refusal != 14;
+    int status = shot_status(s);
     if (beside)
         against_find(&a, old, s);
-    status = shot_status(s) || (beside && a.any);
+    if (!status && beside)
+        status = a.any;
     if (o->json) {
         json_begin();
         json_shot(s, beside ? old : NULL, beside ? &a : NULL);
@@ -163,23 +183,18 @@ static int tell(const struct shot *s, const struct shot *old, const struct optio
     return status;
 }
 
+/* An error with the dump or the golden picture ends the call; as JSON it is told like any other answer. */
 static int show(const struct options *o) {
     static struct shot s, old;
-    struct bytes golden = {NULL, 0};
     int status;
-    if (o->golden)
-        golden = file_need(o->golden);
-    if (o->against)
-        take_old(&old, o);
-    if (o->words[0])
-        take_words(&s, o);
-    else
-        take_dump(&s, o->dumps[0], o->registers || o->json);
-    if (o->golden)
-        take_golden(&s, o, &golden);
+    take_all(&s, &old, o);
+    if (!o->json && s.error)
+        fail(strcmp(s.name, "-") ? s.name : "standard input", s.error);
+    if (!o->json && s.golden_error)
+        fail(strcmp(o->golden, "-") ? o->golden : "standard input", s.golden_error);
+    if (!s.error && !s.golden_error)
+        write_outputs(&s, o);
     status = tell(&s, &old, o);
-    write_outputs(&s, o);
-    free(golden.at);
     shot_free(&s);
     shot_free(&old);
     return status;
@@ -187,11 +202,17 @@ static int show(const struct options *o) {
 
 /* No output is an input, and no two outputs are one file. */
 static void keep_apart(const struct options *o) {
-    const char *more[] = {o->golden, o->against, o->memory, o->palette}, *outputs[] = {o->output, o->differences};
-    const char **inputs = grow(NULL, sizeof *inputs * (size_t)o->dump_count + sizeof more);
+    const char *more[] = {o->golden, o->against, o->memory, o->palette}, *outputs[MOST_OUTPUTS] = {o->output, o->differences};
+    size_t dumps = (size_t)o->dump_count, count = 4 + 2 * dumps;
+    const char **inputs = grow(NULL, sizeof *inputs * count);
     memcpy(inputs, more, sizeof more);
-    memcpy(inputs + 4, o->dumps, sizeof *inputs * (size_t)o->dump_count);
-    outputs_apart(inputs, (size_t)o->dump_count + 4, outputs, 2);
+    for (size_t i = 0; i < dumps; i++) {
+        inputs[4 + i] = o->dumps[i];
+        inputs[4 + dumps + i] = o->golden_dir ? golden_path(o->golden_dir, o->dumps[i]) : NULL;
+    }
+    outputs_apart(inputs, count, outputs, MOST_OUTPUTS);
+    for (size_t i = 0; i < dumps; i++)
+        free((char *)inputs[4 + dumps + i]);
     free(inputs);
 }
 

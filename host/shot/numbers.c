@@ -13,39 +13,46 @@ static void add_text(char *to, size_t room, const char *format, ...) {
     va_end(arguments);
 }
 
-void bits_text(uint32_t mask, char *to, size_t room) {
+/* The bits of a mask by number: "bits 28..27, 3 are", "bit 5 is". */
+static void add_bits(char *to, uint32_t mask) {
     bool one = !(mask & (mask - 1)), first = true;
-    snprintf(to, room, "bit%s ", one ? "" : "s");
+    add_text(to, NUMBERS, "bit%s ", one ? "" : "s");
     for (int high = WORD_BITS - 1, low; high >= 0; high = low - 1) {
         for (low = high; low > 0 && (mask >> low & 1) && (mask >> (low - 1) & 1); low--)
             ;
         if (!(mask >> high & 1))
             continue;
-        add_text(to, room, high == low ? "%s%d" : "%s%d..%d", first ? "" : ", ", high, low);
+        add_text(to, NUMBERS, high == low ? "%s%d" : "%s%d..%d", first ? "" : ", ", high, low);
         first = false;
     }
-    add_text(to, room, one ? " is" : " are");
+    add_text(to, NUMBERS, one ? " is" : " are");
 }
 
 bool bank_bits_left(const uint32_t *words, int word) {
     const struct layout *l = layout_asked();
-    int bank = l->word[LCD_LCDBANK];
-    uint32_t mask = l->most[LCD_LCDBANK] << l->low[LCD_LCDBANK], set = words[word] & l->reserved[word];
-    return word == l->word[LCD_LCDBASEL] && set && set == (words[bank] & mask);
+    uint32_t set = words[word] & l->reserved[word], low = l->low[LCD_LCDBANK];
+    uint32_t bank = words[l->word[LCD_LCDBANK]] >> low & l->most[LCD_LCDBANK];
+    bool at_end = !(words[l->word[LCD_LCDBASEL]] & l->most[LCD_LCDBASEL]);
+    return word == l->word[LCD_LCDBASEL] && set && (set == bank << low || (at_end && set == (bank + 1) << low));
+}
+
+bool reserved_text(const uint32_t *words, int word, char *to) {
+    uint32_t set = words[word] & layout_asked()->reserved[word];
+    *to = 0;
+    if (!set)
+        return false;
+    add_text(to, NUMBERS, "reserved ");
+    add_bits(to, set);
+    add_text(to, NUMBERS, " set (0x%08" PRIx32 "); cleared, the word is 0x%08" PRIx32 "%s", set, words[word] & ~set,
+             bank_bits_left(words, word) ? "; it is the bank, as Linux's driver leaves it" : "");
+    return true;
 }
 
 static void reserved_numbers(const uint32_t *words, char *to) {
-    const struct layout *l = layout_asked();
-    char bits[100];
-    for (int word = 0; word < LCD_REGISTERS; word++) {
-        uint32_t set = words[word] & l->reserved[word];
-        if (!set)
-            continue;
-        bits_text(set, bits, sizeof bits);
-        add_text(to, NUMBERS, "%s%s = 0x%08" PRIx32 ": reserved %s set%s; cleared, the word is 0x%08" PRIx32, *to ? "; " : "",
-                 register_names[word], words[word], bits,
-                 bank_bits_left(words, word) ? " (LCDBANK's, as Linux's driver leaves them)" : "", words[word] & ~set);
-    }
+    char text[NUMBERS];
+    for (int word = 0; word < LCD_REGISTERS; word++)
+        if (reserved_text(words, word, text))
+            add_text(to, NUMBERS, "%s%s: %s", *to ? "; " : "", register_names[word], text);
 }
 
 uint32_t picture_end(const uint32_t *f) {
@@ -98,7 +105,7 @@ static void memory_numbers(const struct dump *d, char *to) {
     add_missing(to, needed_past > past ? needed_past - (first > past ? first : past) : 0, "behind its end");
 }
 
-void refusal_numbers(const struct judging *j, uint32_t refusal, char *to) {
+void refusal_numbers(const struct judging *j, const struct readings *given, uint32_t refusal, char *to) {
     const struct readings *r = &j->now;
     const uint32_t *f = r->fields;
     char meaning[MEANING];
@@ -119,7 +126,7 @@ void refusal_numbers(const struct judging *j, uint32_t refusal, char *to) {
     case 5: row_numbers(r, to); break;
     case 6:
         add_text(to, NUMBERS, "LCDBASEL = %" PRIu32 ", LCDBASEU + (PAGEWIDTH + OFFSIZE) x H = %" PRIu32 " modulo 2^21",
-                 f[LCD_LCDBASEL], picture_end(f));
+                 given->fields[LCD_LCDBASEL], picture_end(given->fields));
         break;
     case 7: bank_numbers(r, to); break;
     case 8: memory_numbers(&j->dump, to); break;

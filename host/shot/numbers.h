@@ -10,17 +10,17 @@
 
 enum { NUMBERS = 1024 };
 
-/* What a refusal from 1 to 9 is about, in at most NUMBERS characters. */
-void refusal_numbers(const struct judging *j, uint32_t refusal, char *to);
+/* What a refusal from 1 to 9 is about, in at most NUMBERS characters, of the words as they are judged; for 6 as they were given. */
+void refusal_numbers(const struct judging *j, const struct readings *given, uint32_t refusal, char *to);
 
 /* The right side of 6: where the picture of these fields ends, in half-words of the bank. */
 uint32_t picture_end(const uint32_t *fields);
 
-/* The bits of a mask by number: "bits 28..27, 3 are", "bit 5 is". */
-void bits_text(uint32_t mask, char *to, size_t room);
+/* What is wrong with a word that has reserved bits set, in at most NUMBERS characters; false where it has none. */
+bool reserved_text(const uint32_t *words, int word, char *to);
 
-/* Whether the reserved bits that are set in this word are LCDBANK's as LCDSADDR1 has them, which Linux's driver also writes into
- * LCDSADDR2. */
+/* Whether the reserved bits that are set in this word are the bank of the picture's end, as Linux's driver writes it into LCDSADDR2:
+ * LCDBANK's bits, or the next bank's where the picture ends with its own. */
 bool bank_bits_left(const uint32_t *words, int word);
 
 #endif

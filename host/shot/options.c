@@ -20,7 +20,7 @@ static const char help[] =
     "bytes; then the video memory. The first line printed is the frame's clocks, its HCLK ticks and its rate in millihertz,\n"
     "or 'refused N'; what it means follows.\n"
     "\n"
-    "  -o FILE               write the picture as a PNG, or the dump where FILE ends in .dump\n"
+    "  -o FILE               write the picture as a PNG, or the dump where FILE ends in .dump, and with --testcard\n"
     "  --registers           print every field with its meaning, and of refused words every fault and what lifts it\n"
     "  --compare GOLDEN.png  say how many pixels differ from this picture, where and by how much\n"
     "  --tolerance N         pixels differ where red, green or blue is more than N of 255 apart (0)\n"
@@ -156,14 +156,18 @@ static void read_all(struct options *o, int argc, char **argv) {
 
 /* ---- what goes together */
 
-static bool ends_in_dump(const char *path) {
-    size_t length = strlen(path);
-    return length >= 5 && !strcmp(path + length - 5, ".dump");
+static bool ends_in(const char *path, const char *ending) {
+    size_t length = strlen(path), of = strlen(ending);
+    return length >= of && !strcmp(path + length - of, ending);
 }
 
 bool options_several(const struct options *o) { return o->dump_count > 1 || o->golden_dir; }
 
-bool options_dump_out(const struct options *o) { return o->output && (o->card[0] || ends_in_dump(o->output)); }
+bool options_dump_out(const struct options *o) { return o->output && (o->card[0] || ends_in(o->output, ".dump")); }
+
+uint32_t options_tolerance(const struct options *o) {
+    return o->tolerance ? decimal_of("--tolerance", "the distance", o->tolerance, 255) : 0;
+}
 
 static void needs(const char *option, const char *given, const char *other, const char *why) {
     if (given && !other)
@@ -190,6 +194,8 @@ static void check_one(const struct options *o) {
     if (o->card[0] && (o->dump_count || o->words[0] || o->golden || o->against || o->golden_dir || o->registers || o->json))
         misuse("--testcard", "takes -o alone");
     needs("--testcard", o->card[0], o->output, "-o and a file are missing");
+    if (o->card[0] && ends_in(o->output, ".png"))
+        misuse("--testcard", "makes a dump, which lcdshot then draws; -o names a picture");
     if (o->words[0] && (o->dump_count || o->golden_dir))
         misuse("--words", "takes no dump");
     if (!o->card[0] && !o->words[0] && !o->dump_count)

@@ -25,6 +25,9 @@ bool options_several(const struct options *o);
 /* Whether -o asks for a dump. */
 bool options_dump_out(const struct options *o);
 
+/* The tolerance, 0 where none is given. */
+uint32_t options_tolerance(const struct options *o);
+
 /* A decimal number of at most `most`, or a hexadecimal one of 32 bits; `what` names it where it is wrong. */
 uint32_t decimal_of(const char *option, const char *what, const char *text, uint32_t most);
 uint32_t hexadecimal_of(const char *option, const char *what, const char *text);

@@ -6,6 +6,7 @@
 #include <setjmp.h>
 #include <stdlib.h>
 #include <string.h>
+#include "outputs.h"
 
 struct picture picture_new(uint32_t width, uint32_t height) {
     struct picture p = {width, height, NULL};
@@ -164,7 +165,7 @@ void picture_write(const struct picture *p, const char *path) {
     if (!png_image_write_to_memory(&image, png.at, &room, 0, rgb, 0, NULL))
         fail(path, image.message);
     png.length = room;
-    file_write(path, &png);
+    output_write(path, &png);
     free(png.at);
     free(rgb);
 }

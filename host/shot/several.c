@@ -10,11 +10,10 @@
 
 /* ---- golden pictures by name */
 
-static const char *last_name(const char *path) { return strrchr(path, '/') ? strrchr(path, '/') + 1 : path; }
+static const char *file_name(const char *path) { return strrchr(path, '/') ? strrchr(path, '/') + 1 : path; }
 
-/* DIR/NAME.png for NAME.dump; the caller frees it. */
-static char *golden_path(const char *folder, const char *dump) {
-    const char *name = last_name(dump), *ending = strrchr(name, '.');
+char *golden_path(const char *folder, const char *dump) {
+    const char *name = file_name(dump), *ending = strrchr(name, '.');
     size_t length = ending && !strcmp(ending, ".dump") ? (size_t)(ending - name) : strlen(name), room = strlen(folder) + length + 6;
     char *path = grow(NULL, room);
     snprintf(path, room, "%s/%.*s.png", folder, (int)length, name);
@@ -34,10 +33,10 @@ static void compare_with(struct shot *s, const char *folder, uint32_t tolerance)
 /* ---- a line */
 
 /* A name on one line, whatever is in it. */
-static void say_name(const char *name, int width) {
+static void print_name(FILE *to, const char *name, int width) {
     for (; *name; name++, width--)
-        say("%c", (unsigned char)*name < 0x20 || *name == 0x7f ? '?' : *name);
-    say("%*s", width > 0 ? width : 0, "");
+        putc((unsigned char)*name < 0x20 || *name == 0x7f ? '?' : *name, to);
+    fprintf(to, "%*s", width > 0 ? width : 0, "");
 }
 
 static void say_facts(const struct shot *s) {
@@ -55,7 +54,7 @@ static void say_facts(const struct shot *s) {
 }
 
 static void say_line(const struct shot *s, int width) {
-    say_name(s->name, width);
+    print_name(report_stream(), s->name, width);
     if (s->error) {
         say("  error: %s\n", s->error);
         return;
@@ -85,10 +84,13 @@ static void say_line(const struct shot *s, int width) {
 
 /* How far it is, on a terminal; wiped away before the next line is printed. */
 static void progress(int done, int all, const char *name) {
-    if (isatty(STDERR_FILENO) && done < all)
-        fprintf(stderr, "\r\033[K%d of %d: %.60s", done + 1, all, last_name(name));
-    else if (isatty(STDERR_FILENO))
-        fprintf(stderr, "\r\033[K");
+    if (!isatty(STDERR_FILENO))
+        return;
+    fprintf(stderr, "\r\033[K");
+    if (done < all) {
+        fprintf(stderr, "%d of %d: ", done + 1, all);
+        print_name(stderr, file_name(name), 0);
+    }
     fflush(stderr);
 }
 
@@ -114,7 +116,7 @@ static int show_one(const struct options *o, const char *name, uint32_t toleranc
 }
 
 int several_show(const struct options *o) {
-    uint32_t tolerance = o->tolerance ? decimal_of("--tolerance", "the distance", o->tolerance, 255) : 0;
+    uint32_t tolerance = options_tolerance(o);
     int worst = 0, width = 0;
     for (int i = 0; i < o->dump_count; i++)
         width = (int)strlen(o->dumps[i]) > width ? (int)strlen(o->dumps[i]) : width;

@@ -39,6 +39,8 @@ gives 1 'clocks 91280 hclk 912800 mhz 109553' earlier.dump --against "$td.dump"
 same "$(sed -n '/^differs/,$p' out | sed 's/   */  /g')" "differs from $td.dump
   window start 805306368, 0x30000000  ->  805306364, 0x2ffffffc
   memory  1 word in the new dump alone" 'the same memory, a word earlier'
+gives 1 'clocks 91280 hclk 912800 mhz 109553' "$td.dump" --against longer.dump
+says 'memory 1 word in the old dump alone' 'a shorter memory'
 gives 1 'clocks 91280 hclk 912800 mhz 109553' "$td.dump" --against earlier.dump
 same "$(sed -n '/^differs/,$p' out | tail -n +3 | sed 's/   */  /g')" '  memory  1 word in the old dump alone' 'and the other way round'
 
@@ -53,6 +55,10 @@ gives 0 'clocks 91280 hclk 912800 mhz 109553' --words $t9 --hclk 100000000 --mem
 # words beside a dump: their registers, and HCLK where it is given
 gives 0 'clocks 91280 hclk 912800 mhz 0' --words $t9 --against "$td.dump"
 gives 0 'clocks 91280 hclk 912800 mhz 109553' --words $t9 --hclk 100000000 --against "$td.dump"
+gives 1 'clocks 91280 hclk 912800 mhz 0' --words $t9 --hclk 0 --against "$td.dump"
+patch "$td.dump" 44 1 > palette.dump
+gives 0 'clocks 91280 hclk 912800 mhz 109553' --words $t9 --hclk 100000000 --memory <(tail -c +557 "$td.dump") --start 30000000 \
+    --against palette.dump
 gives 1 'clocks 91280 hclk 912800 mhz 146070' --words $t9 --hclk 133333333 --against "$td.dump"
 gives 1 'clocks 91280 hclk 912800 mhz 0' --words 479 14fc041 98ef09 9 b08 18000000 12c00 f0 0 --against "$td.dump"
 same "$(sed -n '/^differs/,$p' out | sed 's/   */  /g')" "differs from $td.dump

@@ -43,6 +43,18 @@ status=0
 "$shot" X.dump >> X.dump 2> err || status=$?
 same "$status $(cmp X.dump swap.dump 2>&1)" '2 ' 'the dump is standard output'
 status=0
+"$shot" X.dump 2>> X.dump > out || status=$?
+same "$status $(cmp X.dump swap.dump 2>&1)$(grep -c 'standard error: the same file' out)" '2 1' 'the dump is standard error'
+status=0
+"$shot" X.dump >> X.dump 2>&1 || status=$?
+same "$status $(cmp X.dump swap.dump 2>&1)" '2 ' 'the dump is both'
+status=0
+"$shot" X.dump -o - > out 2>&1 || status=$?
+same "$status $(grep -c 'the same file as the report on standard error' out)" '2 1' 'picture and report in one file'
+status=0
+{ "$shot" X.dump -o - 2>&1 || status=$?; } | cat > out
+same "$(grep -c 'the same file as the report on standard error' out) $(wc -l < out)" '1 1' 'picture and report in one pipe'
+status=0
 "$shot" X.dump -o out.png > out 2>> out || status=$?
 same "$status $(head -c 4 out.png | tail -c 3)" '0 PNG' 'a report with errors and lines in one file'
 
@@ -67,7 +79,9 @@ mknod device c 1 3 2> /dev/null && {
     mknod full c 1 7
     run "$td.dump" -o full
     same "$status $(cat err)" '2 lcdshot: full: No space left on device' 'a picture to a full device'
-}
+    run "$td.dump" --json -o full
+    same "$status $(wc -c < out)" '2 0' 'no JSON that says otherwise than the exit status'
+} || echo 'no devices can be made: their cases are left out' >&2
 fresh
 run "$td.dump" -o link.png
 same "$status $(readlink link.png) $(cmp g.png plain.png 2>&1)" '0 g.png ' 'a picture through a symbolic link'
@@ -79,6 +93,11 @@ run "$td.dump" -o first.png
 same "$status $(readlink first.png) $(cmp elsewhere/deep/end.png plain.png 2>&1)" '0 elsewhere/second.png ' 'through two links'
 ln -s loop.png loop.png
 gives 2 'lcdshot: loop.png: Too many levels of symbolic links' "$td.dump" -o loop.png
+"$shot" "$td.dump" -o >(cat > substituted.png) > out && wait $! || true
+same "$(cmp substituted.png plain.png 2>&1)" '' 'a picture to a program'
+run swap.dump --compare "$td.png" -o one-new.png --differences other-new.png
+same "$status $(files '*-new.png' | xargs)" '1 ./one-new.png ./other-new.png' 'two new pictures in one folder'
+gives 2 "lcdshot: '': No such file or directory" "$td.dump" -o ''
 for mode in 600 640 444 755; do
     cp plain.png moded.png && chmod $mode moded.png
     run "$td.dump" -o moded.png
@@ -87,6 +106,17 @@ for mode in 600 640 444 755; do
 done
 (umask 027 && "$shot" "$td.dump" -o masked.png > out)
 same "$(stat -c %a masked.png)" 640 'a new picture has the usual mode'
+if [ "$(id -u)" -eq 0 ] && setpriv --reuid=65534 --regid=65534 --clear-groups true 2> /dev/null; then
+    mkdir theirs && cp "$shot" "$td.dump" theirs && cp plain.png theirs/kept.png
+    chmod 711 "$work" "$work/files" && chown -R 65534:65534 theirs && chmod 444 theirs/kept.png
+    status=0
+    setpriv --reuid=65534 --regid=65534 --clear-groups theirs/lcdshot theirs/td035sted4-16.dump -o theirs/kept.png > out 2> err || status=$?
+    same "$status $(cat err)" '2 lcdshot: theirs/kept.png: Permission denied' 'a write-protected picture stays'
+    run "$td.dump" -o theirs/kept.png
+    same "$status $(stat -c '%u:%g %a' theirs/kept.png)" '0 65534:65534 444' 'a replaced picture keeps its owner'
+else
+    echo 'not root: the cases of other owners are left out' >&2
+fi
 ln plain.png second-name.png
 run swap.dump -o second-name.png
 same "$(cmp plain.png "$td.png" 2>&1)" '' 'another name of a replaced file keeps the old picture'
@@ -111,6 +141,9 @@ gives 2 'lcdshot: -: standard input can be read once; see lcdshot --help' - --ag
 status=0
 script -qec "$shot '$td.dump' -o -" /dev/null < /dev/null > out 2>&1 || status=$?
 same "$status $(grep -c 'standard output: a terminal' out)" '2 1' 'no picture to a terminal'
+status=0
+script -qec "$shot '$td.dump' -o stdout" /dev/null < /dev/null > out 2>&1 || status=$?
+same "$status $(grep -c 'stdout: a terminal' out)" '2 1' 'nor by its other name'
 
 # ---- a lost line is noticed on every path
 

@@ -89,7 +89,7 @@ neighbour() { # what is due, arguments
     local due=$1
     shift
     run "$@"
-    same "$status: $(grep '^\(equal with\|not equal\)' out)" "1: $due" "the neighbour of $*"
+    same "$status: $(grep '^\(equal with\|not equal\|not drawn\)' out)" "1: $due" "the neighbour of $*"
 }
 neighbour 'equal with HWSWP 1' swap.dump --compare g.png
 patch "$td.dump" 17 ^8 > format.dump
@@ -98,13 +98,21 @@ patch "$examples/lq035q1dg06-8.dump" 16 ^2 > bytes.dump
 neighbour 'equal with BSWP 1' bytes.dump --compare "$examples/lq035q1dg06-8.png"
 { head -c 16 "$t1"; printf '\x00\x10'; tail -c +19 "$t1"; } > high.dump
 neighbour 'equal with BPP24BL 0' high.dump --compare t1.png
-neighbour 'not equal with another HWSWP, BSWP, BPP24BL or FRM565 either, nor with LCDBASEU a row less or more' two.dump --compare g.png
+neighbour 'not equal with HWSWP 0
+not drawn with BSWP 1: refused 4
+not equal with BPP24BL 1
+not equal with FRM565 0
+not drawn with LCDBASEU 240 and LCDBASEL 77040 (a row more): refused 8' two.dump --compare g.png
+run two.dump -o two.png
+neighbour 'equal with HWSWP 1' swap.dump --compare two.png --tolerance 8
+run swap.dump --compare two.png --tolerance 7
+same "$(grep -c '^not equal with HWSWP 1' out)" 1 'a neighbour outside the tolerance'
 # T1 with a row more of memory, its view a row down: LCDBASEU 2 and LCDBASEL 6; then back again
 { cat "$t1"; printf '\x01\x02\x03\x00'; } > three.dump
 patch three.dump 20 2 > a && patch a 24 6 > down.dump
 run down.dump -o down.png
-neighbour 'equal with LCDBASEU 0 and LCDBASEL 4, a row less' down.dump --compare t1.png
-neighbour 'equal with LCDBASEU 2 and LCDBASEL 6, a row more' three.dump --compare down.png
+neighbour 'equal with LCDBASEU 0 and LCDBASEL 4 (a row less)' down.dump --compare t1.png
+neighbour 'equal with LCDBASEU 2 and LCDBASEL 6 (a row more)' three.dump --compare down.png
 
 # ---- what the glass does with an equal picture
 

@@ -31,6 +31,6 @@ same "$(./refuse++)" "$due" 'a C++ program over the library'
 patch "$t1" 0 0x5b > stn.dump
 gives 1 'refused 2' stn.dump
 same "$(sed -n 2p out)" 'PNRMODE is not 3, TFT' 'the text of a refusal'
-# Numbers and texts of the table stand in the README's table too, 1 to 15.
+# The README's table has the same numbers.
 same "$(sed -n 's/^    R(\([0-9]*\),.*/\1/p' "$top/host/lcd.h" | xargs)" "$(sed -n 's/^| \([0-9]*\) | .*/\1/p' "$top/README.md" | sort -nu | xargs)" \
     'the numbers of refusal in lcd.h and in the README'

@@ -29,6 +29,8 @@ run --testcard 64 64 1 -o card.dump
 says '64 by 64 at 1 bit, in white on black: a border, the eight bars (the light colours white), a ramp of two steps' 'a card of 1 bit'
 run --testcard 64 64 2 -o card.dump
 says '64 by 64 at 2 bits, in four greys' 'a card of 2 bits'
+run --testcard 1 1 24 -o card.dump
+says 'the polar diagram in red and green, as far as they fit' 'a card of one pixel'
 run --testcard 64 64 16 -o card.dump
 says '64 by 64 at 16 bits, a border, eight colour bars' 'a card of 16 bits'
 
@@ -49,6 +51,7 @@ no_card 'width 241 at 16 bits is no multiple of 2' 241 320 16 -o none.dump
 no_card 'height x is not a number' 1 x 24 -o none.dump
 no_card 'width -1 is not a number' -1 1 24 -o none.dump
 no_card 'width 4294967296 is above 4294967295' 4294967296 1 24 -o none.dump
+no_card 'makes a dump, which lcdshot then draws; -o names a picture' 240 320 16 -o none.png
 no_card 'BPP is missing' 1 1
 no_card 'BPP is missing' 1 1 -o none.dump
 no_card 'WIDTH is missing' -o none.dump

@@ -20,15 +20,16 @@ same "$(grep -n 'lifted by' out | head -n 2 | sed 's/.*lifted/lifted/')" "lifted
 lifted by BPPMODE 11, then refused 5" 'numbers that end in acceptance go first'
 refused 4 16 0x03 'BSWP 1 1 the four bytes of a word reversed <- refused 4; lifted by 0 with HWSWP 0, then accepted'
 refused 5 28 0x04 "memory 2 words from 0x30000000 to before 0x30000008 <- refused 8
-LINEVAL 23..14 1 2 rows, the height <- refused 6; lifted by 0, then accepted
+LINEVAL 23..14 1 2 rows, the height <- refused 6; lifted by 0 with HOZVAL 1, then accepted
 HOZVAL 18..8 0 1 pixel a row, the width <- refused 5; lifted by 1, then refused 6
-LCDBASEU 20..0 0 A21..1 of the first row: bank + 0x000000 <- refused 6; lifted by 2097148, then refused 7
-LCDBASEL 20..0 4 A21..1 past the last row: bank + 0x000008 <- refused 6; lifted by 8, then refused 8
+LCDBASEU 20..0 0 A21..1 of the first row: bank + 0x000000 <- refused 6; lifted by 2097148 with HOZVAL 1, then refused 7
+LCDBASEL 20..0 4 A21..1 past the last row: bank + 0x000008 <- refused 6; lifted by 8 with HOZVAL 1, then refused 8
 PAGEWIDTH 10..0 4 half-words a row <- refused 5; lifted by 2, then accepted"
 same "$(sed -n '/^  refused 6/,/^  refused 8/p' out | sed -n 's/^ *lifted by //p')" "LINEVAL 0, then accepted
 LCDBASEL 8, then refused 8
 LCDBASEU 2097148, then refused 7" 'those that go further go first'
-refused 5 20 0x01 'LCDBASEU 20..0 1 A21..1 of the first row: bank + 0x000002 <- refused 5; lifted by 0, then accepted'
+refused 5 20 0x01 "memory 2 words from 0x30000000 to before 0x30000008 <- refused 8
+LCDBASEU 20..0 1 A21..1 of the first row: bank + 0x000002 <- refused 5; lifted by 0, then accepted"
 says 'LCDBASEU = 1 is odd' 'the arithmetic of 5: an odd number'
 refused 6 24 0x06 "LINEVAL 23..14 1 2 rows, the height <- refused 6; lifted by 2, then refused 8
 LCDBASEU 20..0 0 A21..1 of the first row: bank + 0x000000 <- refused 6; lifted by 2, then refused 8
@@ -75,17 +76,25 @@ all_faults() { # words, numbers due
     same "$(listed)" "$2" "all faults of $1"
 }
 all_faults '479 14fc041 98ef09 9 b09 18000000 12c00 f0 0' ''
-all_faults '479 14fc041 98ef09 9 b09 18000000 12c00 ef 0' 5
+all_faults '479 14fc041 98ef09 9 b09 18000000 12c00 ef 0' '5 6'
 says '16 x PAGEWIDTH = 3824, W x S = 3840; PAGEWIDTH = 239 is odd' 'the arithmetic of 5'
 says 'lifted by PAGEWIDTH 240, then accepted' 'the cure of 5'
+says 'LCDBASEL = 76800, LCDBASEU + (PAGEWIDTH + OFFSIZE) x H = 76480 modulo 2^21' '6 beside an odd number'
+says 'hangs on refused 5: look again when that is lifted' '6 goes with the cure of 5'
+same "$(grep -c 'refused 6;' out)" 0 'no mark for what hangs on another fault'
 all_faults '479 14fc041 98ef09 9 b09 18000000 12c00 ee 0' '5 6'
 says 'LCDBASEL = 76800, LCDBASEU + (PAGEWIDTH + OFFSIZE) x H = 76160' '6 beside 5'
 says 'judged with HOZVAL 237' 'what 6 is judged with'
 all_faults 'f000042e 14fc041 98ef09 9 b0b 18000000 12c01 f0 fe000000' '1 2 3 4 6 9'
-says 'LCDCON1 = 0xf000042e: reserved bits 31..28 are set; cleared, the word is 0x0000042e; TPAL = 0xfe000000: reserved bits 31..25' \
+says 'LCDCON1: reserved bits 31..28 are set (0xf0000000); cleared, the word is 0x0000042e; TPAL: reserved bits 31..25 are set' \
     'reserved bits of two registers'
+says 'lifted by clearing them, then refused 2' 'what follows where they are cleared'
+says 'ENVID 0 0 video off <- refused 9; lifted by 1 with reserved bits cleared, PNRMODE 3, BPPMODE 12, BSWP 0 and LCDBASEL 76800, then accepted' \
+    'a mark says what its number needs'
 says 'judged with reserved bits cleared, PNRMODE 3, BPPMODE 12, BSWP 0 and LCDBASEL 76800' 'what 9 is judged with'
-all_faults '478 14fc041 98ef09 9 b09 181ffffe 12bfe f0 0' '7 9'
+all_faults '478 14fc041 98ef09 9 b09 181ffffe 12bfe f0 0' '7 8 9'
+says 'lifted by LCDBASEU 0 and LCDBASEL 76800, then refused 9' 'the view moved to where the memory is'
+says 'hangs on refused 7: look again when that is lifted' '8 of a view that was moved'
 all_faults '479 14fc041 98ef09 9 b09 20000000 12c00 f0 0' 8
 says "the picture needs 0x40000000 to 0x400257ff, the dump's video memory is 0x30000000 to 0x300257ff, 153600 bytes are missing behind its end" \
     'a view far behind the memory'
@@ -97,6 +106,14 @@ says '153600 bytes are missing before its start' 'a view far before the memory'
 all_faults '479 14fc041 98f009 9 b09 18000001 12c00 888f1 0' '5 6 8'
 says 'LCDBASEU = 1 is odd; PAGEWIDTH = 241 is odd; OFFSIZE = 273 is odd' 'three odd numbers'
 says 'lifted by LCDBASEU 0, OFFSIZE 272, HOZVAL 239 and PAGEWIDTH 240, then refused 6' 'four fields together'
+# an odd view whose end fits it: both move together
+all_faults '479 14fc041 98ef09 9 b09 18000001 12c01 f0 0' '5 8'
+says 'lifted by LCDBASEU 0 and LCDBASEL 76800, then accepted' 'LCDBASEL along with LCDBASEU'
+# an odd view far from its end and from the memory
+all_faults '479 14fc041 98ef09 9 b09 180edbf9 12c00 f0 0' '5 6 8'
+# a row of no length, a row that no width fits in this mode
+all_faults '479 14fc041 98ef09 9 b09 18000000 0 0 0' '5'
+all_faults '471 14fc041 98ef09 9 b08 18000000 4e200 3e8 0' '5 8'
 
 # 8: both sides, the first and the last byte
 head -c -4 "$td.dump" > less.dump
@@ -122,10 +139,17 @@ says "the dump's video memory starts at 0x30000002, which is no multiple of 4" '
 
 td_with 479 14fc041 98ef09 9 b09 18000000 18012c00 f0 0 > linux.dump
 gives 1 'refused 1' linux.dump --registers
-says "LCDSADDR2 0x18012c00 <- refused 1; reserved bits 28..27 are set (0x18000000); cleared, the word is 0x00012c00; they are LCDBANK's, as Linux's driver leaves them" \
+says "LCDSADDR2 0x18012c00 <- refused 1; reserved bits 28..27 are set (0x18000000); cleared, the word is 0x00012c00; it is the bank, as Linux's driver leaves it" \
     'bank bits in LCDSADDR2'
 says 'lifted by clearing them, then accepted' 'the words without bank bits'
 says 'needed 0x30000000 to 0x300257ff, 153600 bytes' 'the memory that the words need'
+# a picture that ends with its bank has the next one there
+td_with 479 14fc041 98ef09 9 b09 181ed400 18200000 f0 0 > linux.dump
+run linux.dump
+says 'cleared, the word is 0x00000000; it is the bank' 'the bank behind the picture'
+td_with 479 14fc041 98ef09 9 b09 18000000 18212c00 f0 0 > linux.dump
+run linux.dump
+same "$(grep -c Linux out)" 0 'the next bank where the picture does not end there'
 td_with 479 14fc041 98ef09 9 b09 18000000 08012c00 f0 0 > other.dump
 run other.dump
 same "$(grep -c Linux out)" 0 'other bits than LCDBANK has'

@@ -28,6 +28,10 @@ by_script without-rt "$t1"
 same "$status $(head -n 1 out)" "0 $due" 'no kit, and none needed'
 by_script few "$t1"
 same "$status $(head -n 1 out) $(wc -c < err)" "0 $due 0" 'where nothing changed, nothing is asked but the files'
+mv tree/target/host/lcdshot.built kept.built
+by_script few "$t1"
+same "$status $(head -n 1 out) $(wc -c < err)" "0 $due 0" 'a tool that make built'
+mv kept.built tree/target/host/lcdshot.built
 
 # from any folder, through a symbolic link, with files named as seen from there
 mkdir -p 'elsewhere/a b'
@@ -43,8 +47,8 @@ t1.dump" 'the script by its name alone'
 
 # what changed is built, and a file more or less is noticed
 sed -i 's/lcdshot 2\.0/lcdshot 2.0-changed/' tree/host/shot/options.c
-by_script without-rt --version
-same "$status $(cut -d, -f1 out)" '0 lcdshot 2.0-changed' 'a changed source'
+GNUMAKEFLAGS=-n MAKEFLAGS=-n by_script without-rt --version
+same "$status $(cut -d, -f1 out)" '0 lcdshot 2.0-changed' 'a changed source, whatever the caller asks of make'
 echo 'int more;' > tree/host/shot/more.c
 by_script without-rt --version
 same "$status $([ -e tree/target/host/shot/more.o ] && echo built)" '0 built' 'a new source'

@@ -32,6 +32,9 @@ no.dump error: No such file or directory
 error with the golden picture: can't be read as a PNG: not a PNG file
 equal" 'an error does not end the call, and is the worst'
 same "$(wc -c < err)" 0 'no progress line where there is no terminal'
+cp goldens/td035sted4-16.png kept.png
+"$shot" td035sted4-16.dump --golden-dir goldens >> goldens/td035sted4-16.png 2> err || status=$?
+same "$status $(cmp goldens/td035sted4-16.png kept.png 2>&1)" '2 ' 'the report does not go into a golden picture of the folder'
 patch "$td.dump" 556 ^1 > td.dump && cp "$td.png" goldens/td.png
 run td.dump --golden-dir goldens
 same "$status $(sed 's/.*accepted  //' out)" '1 differs: 1 of 76800 pixels' 'a pixel'
@@ -61,9 +64,28 @@ same "$(jq -r '.dumps[0].registers[].fields[] | "  \(.name) \(.high)\(if .high =
 run stn.dump --json
 same "$status $(json '[.status, .dumps[0].refusal, .dumps[0].counts, .dumps[0].faults[0].lifted_by]')" \
     '1 [1,2,null,[{"set":{"PNRMODE":3},"then":0}]]' 'a refusal'
+patch "$td.dump" 27 0x18 > a && patch a 0 0x78 > linux.dump
+run linux.dump --json
+same "$(json '[.dumps[0].registers[6].reserved_bits_set, .dumps[0].registers[6].bank_bits_left, .dumps[0].faults[0].then_cleared, .dumps[0].bytes]')" \
+    '["0x18000000",true,9,154156]' 'reserved bits'
+same "$(json '.dumps[0].faults[1] | [.refusal, .reserved_bits_cleared, .lifted_by]')" '[9,true,[{"set":{"ENVID":1},"then":0}]]' 'a second fault'
+td_with 479 14fc041 98ef09 9 b09 18000000 12c00 ee 0 > page.dump
+run page.dump --json
+same "$(json '[.dumps[0].faults[0].lifted_by[].then], [.dumps[0].faults[1].judged_with, .dumps[0].faults[1].lifted_by[0]]' | xargs)" \
+    '[0,6] [{HOZVAL:237},{set:{LCDBASEL:76160},then:0}]' 'what follows cures'
+td_with 478 14fc041 98ef09 9 b09 20000000 12c00 f0 0 > far.dump
+run far.dump --json
+same "$(json '.dumps[0].faults[1] | [.refusal, .needed_memory_given, .hangs_on]')" '[9,true,0]' 'a fault behind 8'
+run no.dump --json
+same "$status $(json '[.status, .dumps[0].error]')" '2 [2,"No such file or directory"]' 'no dump'
+run "$td.dump" --compare short.dump --json -o none.png
+same "$status $(json '[.status, .dumps[0].golden_error]') $(files 'none*')" \
+    "2 [2,\"can't be read as a PNG: not a PNG file\"] " 'no golden picture'
+run "$td.dump" --json -o no/screen.png
+same "$status $(wc -c < out)" '2 0' 'no document that says less than the exit status'
 run swap.dump --compare "$td.png" --json
-same "$status $(json '.dumps[0].comparison | [.equal, .differ, .pixels, .top, .bottom, .left, .right, .largest_distance, .equal_with]')" \
-    '1 [false,8328,76800,1,318,0,239,252,["HWSWP 1"]]' 'a comparison'
+same "$status $(json '.dumps[0].comparison | [.equal, .differ, .pixels, .top, .bottom, .left, .right, .largest_distance, (.neighbours[] | select(.equal).name)]')" \
+    '1 [false,8328,76800,1,318,0,239,252,"HWSWP 1"]' 'a comparison'
 run swap.dump --against "$td.dump" --json
 same "$status $(json '.dumps[0].against | [.differs, .fields[0].name, .fields[0].old, .fields[0].new, .palette, .memory.words_differ]')" \
     '1 [true,"HWSWP",1,0,[],0]' 'another dump'

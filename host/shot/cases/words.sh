@@ -14,18 +14,18 @@ says '109.553 Hz, 10.000 MHz pixel clock' 'the counts of words in plain units'
 says 'needed 0x30000000 to 0x300257ff, 153600 bytes' 'the memory that words need'
 same "$(grep -v '^needed' out)" "$("$shot" "$td.dump" --registers | grep -v '^memory\|^needed')" 'the account of words is that of their dump'
 gives 0 'clocks 91280 hclk 912800 mhz 0' --words 0x479 0X14FC041 0098EF09 9 B09 18000000 12C00 F0 000000000000
-says 'no rate: HCLK is 0' 'no rate where no HCLK is given'
+says 'no rate: HCLK is not given' 'no rate where no HCLK is given'
 gives 1 'refused 5' --words 479 14fc041 98ef09 9 b09 18000000 12c00 ef 0 --registers
 says '16 x PAGEWIDTH = 3824, W x S = 3840' 'refused words'
 gives 1 'refused 1' --words 479 14fc041 98ef09 9 b09 18000000 18012c00 f0 0
-says "LCDSADDR2 = 0x18012c00: reserved bits 28..27 are set (LCDBANK's, as Linux's driver leaves them); cleared, the word is 0x00012c00" \
+says "LCDSADDR2: reserved bits 28..27 are set (0x18000000); cleared, the word is 0x00012c00; it is the bank, as Linux's driver leaves it" \
     'bank bits in words'
 gives 0 'clocks 91280 hclk 912800 mhz 0' --words 478 14fc041 98ef09 9 b09 18000000 12c00 f0 0
 says 'nothing is sent to the glass: ENVID is 0, and a drawing is refused 9' 'words with video off are judged by 1 to 7'
 gives 0 'clocks 91280 hclk 912800 mhz 0' --words 479 14fc041 98ef09 9 b09 18009600 3a200 c00f0 0 --registers
 # LCDBASEU 38400, 384 half-words left out after each row: the last row ends at 38400 + 319 x 624 + 240 half-words, 0x74100 bytes
 says 'needed 0x30012c00 to 0x300740ff, 398592 bytes' 'a view inside a virtual screen'
-says 'HCLK 0 Hz, no rates' 'no rates without HCLK'
+says 'HCLK not given, no rates' 'no rates without HCLK'
 
 # ---- with a memory they are drawn, and make a dump
 
@@ -60,6 +60,9 @@ gives 2 'lcdshot: palette2: 512 bytes; 256 entries of 4 bytes are 1024 (--palett
     --memory lq.raw --start 30000000 --palette palette2 --palette-bytes 4
 gives 2 'lcdshot: --palette: missing; in this mode the colours come from the palette; see lcdshot --help' --words $lq --memory lq.raw \
     --start 30000000 -o none.png
+# TPALEN 1, 0x112233 everywhere: no palette is needed
+run --words ${lq% *} 1112233 --memory lq.raw --start 30000000 -o one.png
+same "$status" 0 'no palette where the temporary one is on'
 gives 2 'lcdshot: --palette-bytes: 2 or 4; see lcdshot --help' --words $lq --memory lq.raw --start 30000000 --palette palette2 \
     --palette-bytes 3
 
