@@ -162,7 +162,7 @@ static void say_rest(const struct fault *f, const struct cure *c) {
     for (int i = 1; i < c->count; i++)
         rest.changes[rest.count++] = c->changes[i];
     for (int i = 0; i < f->with.count && rest.count < MOST_CHANGES; i++)
-        if (f->with.changes[i].field != c->changes[0].field)
+        if (!cure_sets(c, f->with.changes[i].field))
             rest.changes[rest.count++] = f->with.changes[i];
     with_text(f, &rest, text);
     say("%s%s", *text ? " with " : "", text);

@@ -24,6 +24,13 @@ const struct cure *cure_by(const struct cures *c, int field) {
     return NULL;
 }
 
+bool cure_sets(const struct cure *c, int field) {
+    bool sets = false;
+    for (int i = 0; i < c->count; i++)
+        sets |= c->changes[i].field == field;
+    return sets;
+}
+
 /* How far an answer goes: an acceptance furthest. */
 static uint32_t reach(uint32_t then) { return then ? then : UINT32_MAX; }
 

@@ -39,6 +39,9 @@ struct cure cure_quietly(const struct cures *c, const struct judging *j, uint32_
 /* The cure that begins with this field, or NULL. */
 const struct cure *cure_by(const struct cures *c, int field);
 
+/* Whether a cure sets this field. */
+bool cure_sets(const struct cure *c, int field);
+
 void cure_apply(const struct cure *c, uint32_t *words);
 
 #endif

@@ -81,10 +81,12 @@ const char *file_read(const char *path, struct bytes *b) {
     return why;
 }
 
+const char *input_name(const char *path) { return strcmp(path, "-") ? path : "standard input"; }
+
 struct bytes file_need(const char *path) {
     struct bytes b;
     const char *why = file_read(path, &b);
     if (why)
-        fail(strcmp(path, "-") ? path : "standard input", why);
+        fail(input_name(path), why);
     return b;
 }

@@ -42,6 +42,9 @@ struct bytes {
 /* Reads a file, or standard input where the path is "-". Returns NULL, or why it can't be read. The caller frees `b->at`. */
 const char *file_read(const char *path, struct bytes *b);
 
+/* What an input is called where it is at fault. */
+const char *input_name(const char *path);
+
 /* Reads a file or ends the program. */
 struct bytes file_need(const char *path);
 

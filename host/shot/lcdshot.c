@@ -143,7 +143,7 @@ static void take_golden(struct shot *s, const struct options *o, const struct by
 static void take_old(struct shot *old, const struct options *o) {
     take_dump(old, o->against, false);
     if (old->error || old->refusal == 14)
-        fail(o->against, old->error ? old->error : lcd_refusal_text(14));
+        fail(input_name(o->against), old->error ? old->error : lcd_refusal_text(14));
 }
 
 static void take_all(struct shot *s, struct shot *old, const struct options *o) {
@@ -189,9 +189,9 @@ static int show(const struct options *o) {
     int status;
     take_all(&s, &old, o);
     if (!o->json && s.error)
-        fail(strcmp(s.name, "-") ? s.name : "standard input", s.error);
+        fail(input_name(s.name), s.error);
     if (!o->json && s.golden_error)
-        fail(strcmp(o->golden, "-") ? o->golden : "standard input", s.golden_error);
+        fail(input_name(o->golden), s.golden_error);
     if (!s.error && !s.golden_error)
         write_outputs(&s, o);
     status = tell(&s, &old, o);

@@ -108,12 +108,12 @@ static bool same_place(const struct place *a, const struct place *b) {
 
 /* ---- inputs and outputs apart */
 
-static const char *shown(const char *path, const char *stream) { return strcmp(path, "-") ? path : stream; }
+static const char *output_name(const char *path) { return strcmp(path, "-") ? path : "standard output"; }
 
 static _Noreturn void fail_same(const char *output, const char *what, const char *other) {
     char why[2 * PATH_MAX];
     snprintf(why, sizeof why, "the same file as %s %s; nothing is written", what, other);
-    fail(shown(output, "standard output"), why);
+    fail(output_name(output), why);
 }
 
 /* The input that is this file, or NULL. A terminal or a socket may be both standard streams: nothing is lost there. */
@@ -124,7 +124,7 @@ static const char *input_at(const struct place *p, const char *const *inputs, si
         if (!inputs[i] || p->is_new || (stream ? fstat(STDIN_FILENO, &input) : stat(inputs[i], &input)))
             continue;
         if (same_inode(&p->file, &input) && (p->path || !stream || S_ISREG(input.st_mode)))
-            return shown(inputs[i], "standard input");
+            return input_name(inputs[i]);
     }
     return NULL;
 }
@@ -164,7 +164,7 @@ static void add_place(const char *path, const char *const *inputs, size_t input_
         fail_same(path, "the report on", report_name());
     for (size_t i = 0; i < place_count; i++)
         if (same_place(&places[i], p))
-            fail_same(path, "the output", shown(places[i].named, "standard output"));
+            fail_same(path, "the output", output_name(places[i].named));
     place_count++;
 }
 
