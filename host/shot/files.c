@@ -64,7 +64,10 @@ static const char *read_stream(FILE *file, struct bytes *b) {
         if (b->length == room)
             b->at = grow(b->at, room *= 2);
     }
-    return ferror(file) ? strerror(errno) : NULL;
+    if (ferror(file))
+        return strerror(errno);
+    b->at = grow(b->at, b->length);
+    return NULL;
 }
 
 const char *file_read(const char *path, struct bytes *b) {

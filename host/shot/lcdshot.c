@@ -3,6 +3,7 @@
  * files and words only. It exits with 0; with 1 where a dump is refused or something differs; with 2 where it can't do what it is
  * asked. */
 #include <inttypes.h>
+#include <signal.h>
 #include <stdio.h>
 #include <stdlib.h>
 #include <string.h>
@@ -216,9 +217,12 @@ static void keep_apart(const struct options *o) {
     free(inputs);
 }
 
+/* A file too large, the report's too, is an error like any other. */
 int main(int argc, char **argv) {
-    struct options o = options_read(argc, argv);
+    struct options o;
     int status;
+    signal(SIGXFSZ, SIG_IGN);
+    o = options_read(argc, argv);
     keep_apart(&o);
     status = o.card[0] ? make_card(&o) : options_several(&o) ? several_show(&o) : show(&o);
     free(o.dumps);

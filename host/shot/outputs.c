@@ -205,13 +205,12 @@ static void hold_signals(bool hold) {
     sigprocmask(hold ? SIG_BLOCK : SIG_UNBLOCK, &set, NULL);
 }
 
-/* A file too large, or a pipe that nobody reads, is an error like any other; a signal that the caller ignores stays ignored. */
+/* A pipe that nobody reads is an error like any other; a signal that the caller ignores stays ignored. */
 static void watch_signals(void) {
     static bool watched;
     if (!watched)
         atexit(remove_beside);
     watched = true;
-    signal(SIGXFSZ, SIG_IGN);
     signal(SIGPIPE, SIG_IGN);
     for (size_t i = 0; i < sizeof ending / sizeof *ending; i++)
         if (signal(ending[i], end) == SIG_IGN)

@@ -194,6 +194,9 @@ gives 2 'lcdshot: folder.png: Is a directory' "$t1" -o folder.png
 same "$status: $(cat err)" '2: lcdshot: big.png: File too large' 'no room for the picture'
 (ulimit -f 1 && "$shot" --testcard 240 320 16 -o big.dump > out 2> err) || status=$?
 same "$status: $(cat err)" '2: lcdshot: big.dump: File too large' 'no room for the dump'
+status=0
+(ulimit -f 0 && "$shot" "$td.dump" --registers > report 2> /dev/null) || status=$?
+same "$status" 2 'no room for the report'
 for wrong in '' '--no' '-x' "$t1 -o" "$t1 --differences d.png" "$t1 -o a -o b" '--testcard 1 1 24' "--testcard 1 1 24 -o d $t1" \
     "$t1 $t1 -o d" "$t1 $t1 --registers" "$t1 --golden-dir . --compare kept.png" "$t1 --hclk 1" '--words 1 2 3' "--words $t9 $t1" \
     "--words $t9 -o d.png" "--words $t9 --memory $t1" "--words $t9 --start 0" "--words $t9 --hclk x"; do
