@@ -94,8 +94,7 @@ static void say_fault(const struct fault *f) {
 void account_faults(const struct faults *f) {
     if (!f->count)
         return;
-    say("refused %" PRIu32 "\nfaults      %d condition%s hold%s\n", f->at[0].refusal, f->count, f->count == 1 ? "" : "s",
-        f->count == 1 ? "s" : "");
+    say("refused %" PRIu32 "\nfaults      %d\n", f->at[0].refusal, f->count);
     for (int i = 0; i < f->count; i++)
         say_fault(&f->at[i]);
 }
@@ -133,17 +132,21 @@ static void say_panel(const struct readings *r) {
     say_rate("frame rate", r->dump->hclk, line * s[LCD_SIZE_FRAME]);
 }
 
+void account_needed(const struct dump *d) {
+    uint32_t words[LCD_REGISTERS], first, last;
+    words_cleared(d->words, words);
+    if (memory_needed(words, &first, &last))
+        say("needed      0x%08" PRIx32 " to 0x%08" PRIx32 ", %" PRIu32 " bytes\n", first, last, last - first + 1);
+}
+
 static void say_memory(const struct dump *d, const struct faults *f) {
     bool marked = false;
-    uint32_t words[LCD_REGISTERS], first, last;
     for (int i = 0; i < f->count; i++)
         marked |= f->at[i].refusal == 8;
     if (d->source != WORDS_ALONE)
         say("memory      %zu word%s from 0x%08" PRIx32 " to before 0x%08" PRIx64 "%s\n", d->video_len, d->video_len == 1 ? "" : "s",
             d->window_start, (uint64_t)d->window_start + 4 * (uint64_t)d->video_len, marked ? "  <- refused 8" : "");
-    words_cleared(d->words, words);
-    if (memory_needed(words, &first, &last))
-        say("needed      0x%08" PRIx32 " to 0x%08" PRIx32 ", %" PRIu32 " bytes\n", first, last, last - first + 1);
+    account_needed(d);
 }
 
 /* ---- the registers */

@@ -11,6 +11,9 @@
 /* The counts as the bench prints them, and in plain units. */
 void account_counts(const struct readings *r);
 
+/* Which memory the picture needs; nothing where the words are refused for more than reserved bits. */
+void account_needed(const struct dump *d);
+
 /* What the glass does with the picture where that is not to show it: a text, or NULL. */
 const char *account_glass(const struct readings *r);
 

@@ -119,6 +119,8 @@ static void say_dump(const struct shot *s, const struct options *o) {
         say("%s\n", glass);
     if (o->registers)
         account_registers(&s->readings, &s->faults);
+    else if (s->dump.source == WORDS_ALONE)
+        account_needed(&s->dump);
 }
 
 /* ---- one dump, or words: all is read and judged, then written, then told */

@@ -43,7 +43,7 @@ static void say_facts(const struct shot *s) {
     uint32_t stored = s->readings.sizes[LCD_SIZE_STORED_BITS], bits = stored == 32 ? 24 : stored;
     uint64_t counts[3];
     char rate[MEANING] = "no rate";
-    if (!lcd_counts(s->dump.words, LCD_REGISTERS, s->dump.hclk, counts, 3))
+    if (s->dump.hclk && !lcd_counts(s->dump.words, LCD_REGISTERS, s->dump.hclk, counts, 3))
         rate_text(counts[2], rate);
     say("  %4" PRIu32 " by %-4" PRIu32 "  ", s->readings.sizes[LCD_SIZE_WIDTH], s->readings.sizes[LCD_SIZE_HEIGHT]);
     if (stored)

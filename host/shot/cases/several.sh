@@ -40,6 +40,9 @@ run td.dump --golden-dir goldens
 same "$status $(sed 's/.*accepted  //' out)" '1 differs: 1 of 76800 pixels' 'a pixel'
 run td.dump --golden-dir goldens --tolerance 8
 same "$status $(sed 's/.*accepted  //' out)" '0 equal' 'a pixel within the tolerance'
+{ head -c 36 "$td.dump"; printf '\0\0\0\0'; tail -c +41 "$td.dump"; } > still.dump
+run still.dump short.dump
+same "$(sed 's/  */ /g' out | head -n 1)" 'still.dump 240 by 320 16 bits no rate accepted' 'no rate where HCLK is 0'
 patch "$td.dump" 16 ^0x88 > dark.dump && cp "$td.png" goldens/dark.png
 run dark.dump --golden-dir goldens
 same "$status $(sed 's/.*accepted  //' out)" '0 equal  dark: PWREN is 0  negative: INVVD is 1' 'an equal picture on a dark glass'

@@ -13,6 +13,8 @@ gives 0 'clocks 91280 hclk 912800 mhz 109553' --words $t9 --hclk 100000000 --reg
 says '109.553 Hz, 10.000 MHz pixel clock' 'the counts of words in plain units'
 says 'needed 0x30000000 to 0x300257ff, 153600 bytes' 'the memory that words need'
 same "$(grep -v '^needed' out)" "$("$shot" "$td.dump" --registers | grep -v '^memory\|^needed')" 'the account of words is that of their dump'
+gives 0 'clocks 91280 hclk 912800 mhz 109553' --words $t9 --hclk 100000000
+says 'needed 0x30000000 to 0x300257ff, 153600 bytes' 'the memory that words need, in short'
 gives 0 'clocks 91280 hclk 912800 mhz 0' --words 0x479 0X14FC041 0098EF09 9 B09 18000000 12C00 F0 000000000000
 says 'no rate: HCLK is not given' 'no rate where no HCLK is given'
 gives 1 'refused 5' --words 479 14fc041 98ef09 9 b09 18000000 12c00 ef 0 --registers
