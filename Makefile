@@ -48,5 +48,9 @@ target/host/differential-sanitized: host/differential.c host/model.c host/model.
 
 -include $(wildcard target/host/*.d target/host/shot/*.d)
 
-.PHONY: all
+# whether all C compiles without a warning, before anything is proved
+syntax:
+	$(CC) $(CFLAGS) -fsyntax-only $(wildcard host/*.c host/shot/*.c)
+
+.PHONY: all syntax
 .DELETE_ON_ERROR:
