@@ -1,33 +1,37 @@
 // The bench's input (document 01, "The bench"): its length, and numbers stored low byte first.
-ghost use Prim.Native.Nat.{_+_, _*_, _≤_};
-ghost use mathlib.Core.Bool.{false};
+ghost use Prim.Native.Nat.{_+_, _*_, _<_, _≤_};
 ghost use mathlib.Core.Path.{_≡_};
 ghost use lib.ListN.{length};
+ghost use Rattle.laws.specs.Storing.{stores};
+ghost use Rattle.bench.specs.Input.{lengthRefused, lowFirst};
 
-// Refusal 14: under 556 bytes, a tail that is no multiple of 4, or a tail above 32,768.
+// Whether an input of n bytes is refused as 14. What comes before the video words takes 556.
 pub(crate) fn length_refused(n: usize) -> bool
-    ensures { λ r. ⌜ (r ≡ false → (556 ≤ n) × (n ≤ 33324)) ⌝ }
+    ensures { λ r. ⌜ r ≡ lengthRefused n ⌝ }
 {
     if n < 556 {
         return true;
     }
-    if (n - 556) % 4 != 0 {
-        return true;
-    }
-    32768 < n - 556
+    let tail = n - 556;
+    (tail % 4 != 0) | (32768 < tail)
 }
 
-fn wide(byte: u8) -> u32 {
+fn wide(byte: u8) -> u32
+    ensures { λ r. ⌜ (r ≡ byte) × (r < 256) ⌝ }
+{
     byte as u32
 }
 
-fn wide_half(byte: u8) -> u16 {
+fn wide_half(byte: u8) -> u16
+    ensures { λ r. ⌜ (r ≡ byte) × (r < 256) ⌝ }
+{
     byte as u16
 }
 
 // The word at four bytes.
 fn word(bytes: &[u8], at: usize) -> u32
     requires { ⌜ at + 4 ≤ length (now bytes) ⌝ }
+    ensures { λ r. ⌜ r ≡ lowFirst (now (bytes .entry)) at 4 ⌝ }
 {
     wide(bytes[at])
         | (wide(bytes[at + 1]) << 8)
@@ -38,13 +42,15 @@ fn word(bytes: &[u8], at: usize) -> u32
 // The half-word at two bytes.
 fn half(bytes: &[u8], at: usize) -> u16
     requires { ⌜ at + 2 ≤ length (now bytes) ⌝ }
+    ensures { λ r. ⌜ r ≡ lowFirst (now (bytes .entry)) at 2 ⌝ }
 {
     wide_half(bytes[at]) | (wide_half(bytes[at + 1]) << 8)
 }
 
-// The first n entries of `out` become the words from a byte on.
+// The first n entries of `out` become the words from a byte on; the others stay.
 pub(crate) fn words(bytes: &[u8], from: usize, n: usize, out: &mut [u32])
     requires { ⌜ (from + 4 * n ≤ length (now bytes)) × (n ≤ length (now out)) ⌝ }
+    ensures { λ _. ⌜ now (out .exit) ≡ stores (λ i. lowFirst (now (bytes .entry)) (from + 4 * i) 4) 0 n (now (out .entry)) ⌝ }
 {
     let mut i = 0;
     while i < n {
@@ -53,9 +59,10 @@ pub(crate) fn words(bytes: &[u8], from: usize, n: usize, out: &mut [u32])
     }
 }
 
-// The first n entries of `out` become the half-words from a byte on.
+// The first n entries of `out` become the half-words from a byte on; the others stay.
 pub(crate) fn halves(bytes: &[u8], from: usize, n: usize, out: &mut [u16])
     requires { ⌜ (from + 2 * n ≤ length (now bytes)) × (n ≤ length (now out)) ⌝ }
+    ensures { λ _. ⌜ now (out .exit) ≡ stores (λ i. lowFirst (now (bytes .entry)) (from + 2 * i) 2) 0 n (now (out .entry)) ⌝ }
 {
     let mut i = 0;
     while i < n {

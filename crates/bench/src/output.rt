@@ -1,6 +1,9 @@
 // What the bench prints (document 01, "The bench"): the counts, the rows, or a refusal.
 ghost use Prim.Native.Nat.{_+_, _*_, _<_, _≤_};
+ghost use mathlib.Core.Path.{_≡_};
 ghost use lib.ListN.{length};
+ghost use Rattle.laws.specs.Storing.{stores};
+ghost use Rattle.bench.specs.Output.{digitChar, colourText, parting, rowText};
 use libc::STDOUT_FILENO;
 use panel::timing::frame_clocks;
 use panel::timing::frame_millihertz;
@@ -24,43 +27,55 @@ pub(crate) fn print_counts(w: Words, hclk: u32) {
     io::write_all(STDOUT_FILENO, b"\n");
 }
 
+// The character of a digit.
 fn digit(d: u32) -> u8
     requires { ⌜ d < 16 ⌝ }
+    ensures { λ r. ⌜ r ≡ digitChar d ⌝ }
 {
-    if d < 10 { 48 + d as u8 } else { 87 + d as u8 }
+    if d < 10 {
+        b'0' + d as u8
+    } else {
+        b'a' + (d - 10) as u8
+    }
 }
 
-// A colour's six hexadecimal digits, in lower case, to the text from a place on.
+// A colour's six hexadecimal digits, to the text from a place on.
 fn spell_colour(colour: u32, at: usize, text: &mut [u8])
     requires { ⌜ at + 6 ≤ length (now text) ⌝ }
+    ensures { λ _. ⌜ now (text .exit) ≡ stores (colourText colour) at 6 (now (text .entry)) ⌝ }
 {
-    let mut rest = colour;
-    let mut i = 6;
-    while 0 < i {
-        i -= 1;
-        text[at + i] = digit(rest % 16);
-        rest /= 16;
+    let mut k = 0;
+    while k < 6 {
+        text[at + k] = digit((colour >> (20 - 4 * k)) % 16);
+        k += 1;
     }
 }
 
-// Each colour takes seven places, of which the last is left as it is.
+// What stands behind a colour.
+fn parting(last: bool) -> u8
+    ensures { λ r. ⌜ r ≡ parting last ⌝ }
+{
+    if last { b'\n' } else { b' ' }
+}
+
+// The line of a row: its colours parted by one space, and a newline.
 fn spell_row(row: &[u32], text: &mut [u8])
     requires { ⌜ 7 * length (now row) ≤ length (now text) ⌝ }
+    ensures { λ _. ⌜ now (text .exit) ≡ stores (rowText (now (row .entry))) 0 (7 * length (now (row .entry))) (now (text .entry)) ⌝ }
 {
-    let mut i = 0;
-    while i < row.len() {
-        spell_colour(row[i], 7 * i, text);
-        i += 1;
+    let mut c = 0;
+    while c < row.len() {
+        spell_colour(row[c], 7 * c, text);
+        text[7 * c + 6] = parting(c + 1 == row.len());
+        c += 1;
     }
 }
 
-// One line: the row's colours parted by one space.
+// Seven bytes a colour, and at most 2,048 colours.
 pub(crate) fn print_row(row: &[u32])
-    requires { ⌜ (0 < length (now row)) × (length (now row) ≤ 2048) ⌝ }
+    requires { ⌜ length (now row) ≤ 2048 ⌝ }
 {
-    let mut text = [b' '; 14336];
+    let mut text = [0u8; 14336];
     spell_row(row, &mut text);
-    let n = 7 * row.len();
-    text[n - 1] = b'\n';
-    io::write_all(STDOUT_FILENO, &text[..n]);
+    io::write_all(STDOUT_FILENO, &text[..7 * row.len()]);
 }

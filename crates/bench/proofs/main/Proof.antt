@@ -1,7 +1,14 @@
 -- `bench::main` is safe: an input that is not refused has 556 to 33,324 bytes, all of them read. Assumes nothing.
 use borrow.Author.Needs.{needs}
+use mathlib.Core.Path.{sym, _∙_}
+use Rattle.bench.proofs.Lengths.{accepted-length}
 use Rattle.bench.proofs.main.Statement.{statement}
 use Rattle.bench.proofs.main.Tie as tie
+
+print-input-requires : tie.Need-print-input-requires
+print-input-requires c κs =
+    let bounds = accepted-length _ (sym (c .before .before .length-refused .ensures) ∙ c .before .if1 .left) in
+    (search needs, bounds .0, bounds .1)
 
 pub main-spec : {M : Type 1} → statement M
 main-spec =
@@ -13,5 +20,5 @@ main-spec =
     (λ c κs. search needs)
     (λ c. search needs)
     (λ c. search needs)
-    (λ c κs. let bounds = c .before .before .length-refused .ensures (c .before .if1 .left) in (search needs, bounds .0, bounds .1))
+    print-input-requires
     (λ c. search needs))

@@ -1,6 +1,6 @@
 -- `bench::output::print_row` is safe: the text has room for 2048 colours, seven bytes each. Assumes nothing.
 use borrow.Author.Needs.{needs}
-use lib.ListN.{length-set, length-take}
+use lib.ListN.{length-take}
 use native.Mathlib.Omega.{arith}
 use Rattle.bench.proofs.output.print_row.Statement.{statement}
 use Rattle.bench.proofs.output.print_row.Tie as tie
@@ -13,8 +13,6 @@ print-row-spec =
     (λ c κs. search needs)
     (λ c. search needs)
     (λ c. search needs)
-    (λ c. search needs)
-    (λ c. simp length-set (omega arith))
-    (λ c. simp (length-take, length-set) (omega arith))
+    (λ c. simp length-take (omega arith))
     (λ c κs. search needs)
     (λ c. search needs))
