@@ -12,7 +12,7 @@ use Rattle.laws.specs.Cases.{lowest, lower}
 use Rattle.laws.specs.Storing.{stores}
 use Rattle.registers.specs.Fields as Field
 use Rattle.registers.specs.Fields.{bppmode, pagewidth, reservedBit}
-use Rattle.registers.specs.Loading.{inOrder, load, shortOfNine}
+use Rattle.registers.specs.Loading.{inOrder, load, tooShort, shortOfNine}
 use Rattle.registers.specs.declared.Words.{Words}
 use Rattle.fields.specs.Writing.{write, fieldTooWide}
 use Rattle.fields.specs.declared.Fields.{Fields}
@@ -28,7 +28,7 @@ use Rattle.pixels.specs.Order as Order
 use Rattle.pixels.specs.Pixel.{shown}
 use Rattle.drawing.specs.Colour.{storedPixel, rowColour, colour}
 use Rattle.drawing.specs.Drawing.{drawRow, drawPicture, colourInOrder, judgeRow, judgePicture, judgeDrawing}
-use Rattle.drawing.specs.Drawing.{videoOff, paletteWrong, tooShort, rowOutside}
+use Rattle.drawing.specs.Drawing.{videoOff, paletteWrong, rowOutside}
 use Rattle.memory.specs.Memory.{judgeMemory, outsideMemory, wordOutside, rowAddress, firstWord}
 
 -- ---- rows

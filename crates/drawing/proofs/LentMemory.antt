@@ -17,11 +17,12 @@ use Rattle.panel.specs.Refusals.{wordCases, judge}
 use Rattle.panel.proofs.Accepted.{Accepted, accepted-words, pixels-in-row}
 use Rattle.pixels.specs.Format.{format}
 use Rattle.pixels.specs.declared.format.Format.{Format}
+use Rattle.registers.specs.Loading.{tooShort}
 use Rattle.registers.specs.Fields.{pagewidth}
 use Rattle.registers.specs.declared.Words.{Words}
 use Rattle.drawing.specs.Colour.{rowColour, colour}
 use Rattle.drawing.specs.Core.{Legal, InRow, Lent}
-use Rattle.drawing.specs.Drawing.{videoOff, paletteWrong, tooShort, judgeDrawing, colourInOrder}
+use Rattle.drawing.specs.Drawing.{videoOff, paletteWrong, judgeDrawing, colourInOrder}
 use Rattle.memory.specs.Memory.{rowAddress, rowWords, outsideMemory, memoryCases, judgeMemory, firstWord}
 use Rattle.drawing.proofs.Formats.{legal-format}
 use Rattle.memory.proofs.Window.{rows-rise, row-at-word, beforeWindow, pastWindow, closed-form, start-at-word, start-before}

@@ -10,6 +10,7 @@ use Rattle.laws.specs.Cases.{Case, _when_, lowest}
 use Rattle.laws.specs.Storing.{stores}
 use Rattle.panel.specs.Geometry.{width, height}
 use Rattle.registers.specs.Fields.{envid}
+use Rattle.registers.specs.Loading.{tooShort}
 use Rattle.registers.specs.declared.Words.{Words}
 use Rattle.drawing.specs.Colour.{colour}
 use Rattle.memory.specs.Memory.{memoryCases}
@@ -25,10 +26,6 @@ videoOff w = eqb (envid w) 0
 -- 10: palette length isn't 256
 unfoldable pub paletteWrong : ℕ → Bool
 paletteWrong entries = not (eqb entries 256)
-
--- 10: "or picture shorter than W × H, or row shorter than W, where one is lent"
-unfoldable pub tooShort : ℕ → ℕ → Bool
-tooShort lent needed = ltb lent needed
 
 -- 11: asked row or column is outside the panel
 unfoldable pub rowOutside : Words → ℕ → Bool

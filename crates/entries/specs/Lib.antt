@@ -1,5 +1,4 @@
 pub mod Order
 pub mod Reading
 pub mod Writing
-pub mod Sizes
 pub mod ReadBack

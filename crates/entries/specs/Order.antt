@@ -1,9 +1,8 @@
--- The order of the 34 writable fields and of the nine words in a lent slice (document 01, "The nine words"): the words "in this order",
--- and the fields of a word from its highest bits down, "by bit" as the paper lists them. Assumes nothing.
-use mathlib.Core.List.{List, [], _∷_, _++_}
+-- The order of the 34 writable fields in a lent slice (document 01, "The nine words"): word after word in their order, the fields of a
+-- word from its highest bits down. Assumes nothing.
+use mathlib.Core.List.{List, _++_}
 use Prim.Native.Nat.{ℕ}
 use lib.ListN.{getD}
-use Rattle.registers.specs.declared.Words.{Words}
 use Rattle.fields.specs.Writing.{lcdcon1Values, lcdcon2Values, lcdcon3Values, lcdcon4Values, lcdcon5Values}
 use Rattle.fields.specs.Writing.{lcdsaddr1Values, lcdsaddr2Values, lcdsaddr3Values, tpalValues}
 use Rattle.fields.specs.declared.Fields.{Fields}
@@ -17,7 +16,7 @@ use Rattle.fields.specs.declared.Lcdsaddr2.{Lcdsaddr2}
 use Rattle.fields.specs.declared.Lcdsaddr3.{Lcdsaddr3}
 use Rattle.fields.specs.declared.Tpal.{Tpal}
 
--- ---- the entries of fields: "LCDCON1 to LCDCON5, LCDSADDR1 to LCDSADDR3, TPAL"
+-- ---- the entries of fields
 
 -- of LCDCON1 to LCDCON4
 abbrev pub lcdcon1To4Entries : Fields → List ℕ
@@ -97,18 +96,3 @@ fieldsIn s =
       lcdsaddr3 = lcdsaddr3In s;
       tpal = tpalIn s;
     }
-
--- ---- the entries of words
-
-abbrev pub wordEntries : Words → List ℕ
-wordEntries w =
-    w .lcdcon1
-    ∷ w .lcdcon2
-    ∷ w .lcdcon3
-    ∷ w .lcdcon4
-    ∷ w .lcdcon5
-    ∷ w .lcdsaddr1
-    ∷ w .lcdsaddr2
-    ∷ w .lcdsaddr3
-    ∷ w .tpal
-    ∷ []

@@ -6,18 +6,17 @@ use Prim.Native.Nat.{ℕ, _<_, _≤_}
 use native.Mathlib.Nat.{zero-add}
 use native.Mathlib.Omega.{arith}
 use borrow.Author.Tests.{le-ltb, ltb-false}
-use lib.Dec.{ltb}
 use lib.ListN.{length, getD}
 use Rattle.laws.specs.Answers.{accepted, judged, one-accepts, Outcome, leaves, writes-on, went-on, leaves-written}
 use Rattle.laws.specs.Booleans.{or-false-right}
 use Rattle.laws.specs.Cases.{_when_, lowest, lowest-zero-none-holds, none-of-one}
 use Rattle.laws.specs.Storing.{stores, entry-stored, length-stores}
-use Rattle.registers.specs.Loading.{load, inOrder, shortOfNine}
+use Rattle.registers.specs.Loading.{load, inOrder, wordEntries, tooShort, shortOfNine}
 use Rattle.registers.specs.declared.Words.{Words}
 use Rattle.fields.proofs.RoundTrip as RoundTrip
 use Rattle.fields.specs.Reading.{read}
 use Rattle.fields.specs.Writing.{write, wordsOf, fieldTooWide}
-use Rattle.entries.specs.Order.{fieldsIn, wordEntries}
+use Rattle.entries.specs.Order.{fieldsIn}
 use Rattle.entries.specs.Reading.{putFields, readFieldsOf, readFields}
 use Rattle.entries.specs.Writing.{tooFew, loadFields, putWords, writeFieldsOf, writeFields}
 
@@ -38,13 +37,13 @@ module _ (w : Words) (out : List ℕ) (room : 9 ≤ length out) where
   long-enough = omega (arith, length-stores (λ j. getD (wordEntries w) j 0) 0 9 out)
 
   pub stored-words-are-loaded : load (putWords w out) ≡ accepted w
-  unfolding load shortOfNine
+  unfolding load tooShort shortOfNine
   stored-words-are-loaded = sym (one-accepts 10 _ _ _ (le-ltb _ _ long-enough) (sym in-order))
 
 -- fields that are read go to their entries
 module _ (fields out : List ℕ) (room : 34 ≤ length out) where
   pub entries-of-fields-in : putFields (fieldsIn fields) out ≡ leaves 0 (stores (λ i. getD fields i 0) 0 34 out)
-  unfolding putFields stores
+  unfolding putFields tooShort stores
   entries-of-fields-in =
       sym (leaves-written _ _ _ _ (none-of-one 10 _ (le-ltb _ _ room)) refl)
 
@@ -62,10 +61,10 @@ module _ (fields words left : List ℕ) (done : writeFields fields words ≡ lea
       (λ w. leaves 0 (putWords w words)) left (lent .1)
 
   room : 9 ≤ length words
-  unfolding tooFew
+  unfolding tooFew tooShort
   room =
       ltb-false _ _
-      (or-false-right (ltb (length fields) 34) (ltb (length words) 9)
+      (or-false-right (tooShort (length fields) 34) (tooShort (length words) 9)
       (lowest-zero-none-holds 0 (10 when tooFew fields words ∷ []) tt (lent .0) .0))
 
   taken : write (fieldsIn fields) ≡ accepted (wordsOf (fieldsIn fields))

@@ -17,24 +17,20 @@ fn put_lcdcon1_to_4(f: Fields, fields: &mut [u32])
     requires { ⌜ 34 ≤ length (now fields) ⌝ }
     ensures { λ _. ⌜ now (fields .exit) ≡ putLcdcon1To4 f (now (fields .entry)) ⌝ }
 {
-    let con1 = f.lcdcon1;
-    let con2 = f.lcdcon2;
-    let con3 = f.lcdcon3;
-    let con4 = f.lcdcon4;
-    fields[0] = con1.clkval;
-    fields[1] = con1.mmode;
-    fields[2] = con1.pnrmode;
-    fields[3] = con1.bppmode;
-    fields[4] = con1.envid;
-    fields[5] = con2.vbpd;
-    fields[6] = con2.lineval;
-    fields[7] = con2.vfpd;
-    fields[8] = con2.vspw;
-    fields[9] = con3.hbpd;
-    fields[10] = con3.hozval;
-    fields[11] = con3.hfpd;
-    fields[12] = con4.mval;
-    fields[13] = con4.hspw;
+    fields[0] = f.lcdcon1.clkval;
+    fields[1] = f.lcdcon1.mmode;
+    fields[2] = f.lcdcon1.pnrmode;
+    fields[3] = f.lcdcon1.bppmode;
+    fields[4] = f.lcdcon1.envid;
+    fields[5] = f.lcdcon2.vbpd;
+    fields[6] = f.lcdcon2.lineval;
+    fields[7] = f.lcdcon2.vfpd;
+    fields[8] = f.lcdcon2.vspw;
+    fields[9] = f.lcdcon3.hbpd;
+    fields[10] = f.lcdcon3.hozval;
+    fields[11] = f.lcdcon3.hfpd;
+    fields[12] = f.lcdcon4.mval;
+    fields[13] = f.lcdcon4.hspw;
 }
 
 fn put_lcdcon5(f: Lcdcon5, fields: &mut [u32])
@@ -60,17 +56,13 @@ fn put_addresses(f: Fields, fields: &mut [u32])
     requires { ⌜ 34 ≤ length (now fields) ⌝ }
     ensures { λ _. ⌜ now (fields .exit) ≡ putAddresses f (now (fields .entry)) ⌝ }
 {
-    let saddr1 = f.lcdsaddr1;
-    let saddr2 = f.lcdsaddr2;
-    let saddr3 = f.lcdsaddr3;
-    let tpal = f.tpal;
-    fields[27] = saddr1.lcdbank;
-    fields[28] = saddr1.lcdbaseu;
-    fields[29] = saddr2.lcdbasel;
-    fields[30] = saddr3.offsize;
-    fields[31] = saddr3.pagewidth;
-    fields[32] = tpal.tpalen;
-    fields[33] = tpal.tpalval;
+    fields[27] = f.lcdsaddr1.lcdbank;
+    fields[28] = f.lcdsaddr1.lcdbaseu;
+    fields[29] = f.lcdsaddr2.lcdbasel;
+    fields[30] = f.lcdsaddr3.offsize;
+    fields[31] = f.lcdsaddr3.pagewidth;
+    fields[32] = f.tpal.tpalen;
+    fields[33] = f.tpal.tpalval;
 }
 
 fn put_fields(f: Fields, fields: &mut [u32]) -> u32

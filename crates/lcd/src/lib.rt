@@ -1,22 +1,18 @@
-// The C interface (document 01, "The bench": the host is written in C and calls the check and the row drawing on numbers and
-// slices). A slice comes from C as a pointer and a length; host/lcd.h declares the calls. Each is thin: it takes the nine words, or
-// a scan's state (scan.rt), from their slice and asks the crate below. 0 is done, any other answer the number of the refusal, and
-// then nothing lent is changed.
+// The C interface (document 01, "The bench"): a slice comes from C as a pointer and a length; host/lcd.h declares the calls. Each is
+// thin and asks the crate below. 0 is done, any other answer the number of the refusal, and then nothing lent is changed.
 ghost use mathlib.Core.Path.{_≡_};
 ghost use Rattle.laws.specs.Answers.{leaves};
 ghost use Rattle.memory.specs.Memory.{check};
-ghost use Rattle.lcd.specs.Calls.{putCounts, frameCounts, drawRow, drawPicture};
+ghost use Rattle.sizes.specs.Counts.{readCounts};
+ghost use Rattle.lcd.specs.Calls.{drawRow, drawPicture};
 use drawing::picture::draw_picture;
 use drawing::row::draw_row;
 use memory::check;
-use panel::refusals::accept;
-use panel::timing::frame_clocks;
-use panel::timing::frame_millihertz;
-use panel::timing::frame_ticks;
 use registers::Loaded;
-use registers::Words;
 use registers::load;
+use sizes::counts::read_counts;
 
+pub mod pixel;
 pub mod reading;
 pub mod scan;
 
@@ -28,31 +24,13 @@ pub extern "C" fn lcd_check(words: &[u32], window_start: u32, video: &[u32]) -> 
     check(words, window_start, video)
 }
 
-fn put_counts(w: Words, hclk: u32, counts: &mut [u64]) -> u32
-    ensures { λ r. ⌜ leaves r (now (counts .exit)) ≡ putCounts w hclk (now (counts .entry)) ⌝ }
-{
-    if counts.len() < 3 {
-        return 10;
-    }
-    let clocks = frame_clocks(w) as u64;
-    let ticks = frame_ticks(w);
-    let rate = frame_millihertz(w, hclk);
-    counts[0] = clocks;
-    counts[1] = ticks;
-    counts[2] = rate;
-    0
-}
-
 // The frame's clocks, its HCLK ticks and its rate in millihertz, to the first three entries of `counts`; the others stay. 10 for
 // a slice short of nine words, then 1 to 7, then 10 where `counts` has fewer than three entries.
 #[no_mangle]
 pub extern "C" fn lcd_counts(words: &[u32], hclk: u32, counts: &mut [u64]) -> u32
-    ensures { λ r. ⌜ leaves r (now (counts .exit)) ≡ frameCounts (now (words .entry)) hclk (now (counts .entry)) ⌝ }
+    ensures { λ r. ⌜ leaves r (now (counts .exit)) ≡ readCounts (now (words .entry)) hclk (now (counts .entry)) ⌝ }
 {
-    match accept(words) {
-        Loaded::Nine(w) => put_counts(w, hclk, counts),
-        Loaded::Refused(n) => n,
-    }
+    read_counts(words, hclk, counts)
 }
 
 // One row to the first W entries of `out`; the others stay. 10 for a slice short of nine words, then 1 to 9, 10 for a palette

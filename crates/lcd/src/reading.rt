@@ -1,13 +1,13 @@
 // The words field by field, for C (document 01, "The nine words" and "Clocks and lines"): the writable fields and the panel's sizes as
-// plain numbers in lent slices. Each call asks the crate `entries`.
+// plain numbers in lent slices. Each call asks the crate `entries` or `sizes`.
 ghost use mathlib.Core.Path.{_≡_};
 ghost use Rattle.laws.specs.Answers.{leaves};
 ghost use Rattle.entries.specs.Reading.{readFields};
-ghost use Rattle.entries.specs.Sizes.{readSizes};
 ghost use Rattle.entries.specs.Writing.{writeFields};
+ghost use Rattle.sizes.specs.Sizes.{readSizes};
 use entries::reading::read_fields;
-use entries::sizes::read_sizes;
 use entries::writing::write_fields;
+use sizes::read_sizes;
 
 // The 34 fields to the first 34 entries of `fields`; the others stay. 10 for a slice short of nine words, then 1, then 10 where
 // `fields` has fewer than 34 entries.

@@ -11,7 +11,7 @@ use lib.Dec.{T, eqb}
 use Rattle.laws.specs.Answers.{accepted, judged, andThen, mapped}
 use Rattle.laws.specs.Cases.{lowest, lower, first, lowest-of-ascending-is-first}
 use Rattle.registers.specs.Fields.{bppmode, pagewidth, reservedBit}
-use Rattle.registers.specs.Loading.{load, shortOfNine, inOrder}
+use Rattle.registers.specs.Loading.{load, tooShort, shortOfNine, inOrder}
 use Rattle.registers.specs.declared.Words.{Words}
 use Rattle.panel.specs.Counts.{counts, rate, frameTicks}
 use Rattle.panel.specs.Geometry.{width, storedBits, outsideModes, rowOffset}
@@ -57,7 +57,7 @@ AllHold (x ∷ xs) =
     × AllHold xs
 
 pub examples-hold : AllHold examples
-unfolding counts rate mapped accept andThen load shortOfNine judged judge lowest lower reservedBit notTft noSuchMode outsideModes swapsIllegal storedBits rowSizeWrong endDiffers pastBank rowOffset lineClocks frameLines frameClocks frameTicks
+unfolding counts rate mapped accept andThen load tooShort shortOfNine judged judge lowest lower reservedBit notTft noSuchMode outsideModes swapsIllegal storedBits rowSizeWrong endDiffers pastBank rowOffset lineClocks frameLines frameClocks frameTicks
 examples-hold = (refl, refl, (refl, refl, (refl, refl, (refl, refl, (refl, refl, (refl, refl, tt))))))
 
 -- ---- refusals

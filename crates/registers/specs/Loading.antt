@@ -1,4 +1,4 @@
--- The nine words lent as a slice (document 01, "The nine words", and refusal 10 for "a slice short of nine words").
+-- The nine words lent as a slice (document 01, "The nine words"), and 10 for a slice that has too few entries ("Numbers of refusal").
 -- Assumes nothing.
 use mathlib.Core.Bool.{Bool}
 use mathlib.Core.List.{List, [], _∷_}
@@ -31,9 +31,27 @@ inOrder s =
       tpal = getD s 8 0;
     }
 
+-- the entries of words, in the same order
+abbrev pub wordEntries : Words → List ℕ
+wordEntries w =
+    w .lcdcon1
+    ∷ w .lcdcon2
+    ∷ w .lcdcon3
+    ∷ w .lcdcon4
+    ∷ w .lcdcon5
+    ∷ w .lcdsaddr1
+    ∷ w .lcdsaddr2
+    ∷ w .lcdsaddr3
+    ∷ w .tpal
+    ∷ []
+
+-- 10: fewer entries are lent than the call needs
+unfoldable pub tooShort : ℕ → ℕ → Bool
+tooShort lent needed = ltb lent needed
+
 -- 10: the slice is short of nine words
 unfoldable pub shortOfNine : List ℕ → Bool
-shortOfNine s = ltb (length s) 9
+shortOfNine s = tooShort (length s) 9
 
 -- what the slice gives
 unfoldable pub load : List ℕ → Answer Words

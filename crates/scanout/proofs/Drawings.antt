@@ -11,9 +11,10 @@ use lib.ListN.{length}
 use Rattle.laws.specs.Answers.{Answer, accepted, outcome, leaves}
 use Rattle.laws.specs.Cases.{_when_, pass-joined, none-of-one}
 use Rattle.laws.specs.Storing.{stores}
-use Rattle.drawing.specs.Drawing.{tooShort, pixels, stretchOutside, drawingCases, judgeStretch, drawStretch}
+use Rattle.drawing.specs.Drawing.{pixels, stretchOutside, drawingCases, judgeStretch, drawStretch}
 use Rattle.panel.specs.Geometry.{width, height}
 use Rattle.panel.specs.Timing.{Timing, timing}
+use Rattle.registers.specs.Loading.{tooShort}
 use Rattle.registers.specs.declared.Words.{Words}
 use Rattle.signals.proofs.Positions.{Shows, pixel, blank, shows}
 use Rattle.signals.proofs.ReadingOrder.{further, at-most-all}

@@ -7,7 +7,8 @@ use Prim.Native.Nat.{ℕ, zero, suc, _+_, _<_, _≤_}
 use native.Mathlib.Omega.{arith}
 use lib.ListN.{length}
 use Rattle.laws.specs.Answers.{Answer, accepted, refused, outcome, judged-accepted, judged-refused, orElse, is-refused, else-kept}
-use Rattle.drawing.specs.Drawing.{tooShort, pixels}
+use Rattle.drawing.specs.Drawing.{pixels}
+use Rattle.registers.specs.Loading.{tooShort}
 use Rattle.signals.specs.Clock.{clockAt}
 use Rattle.scanout.specs.Answers.{Shown, Taken}
 use Rattle.scanout.specs.Calls.{Lent, nextColour, judgeStep, step, countOf, drawn, judgeRun, run, withPending, change}

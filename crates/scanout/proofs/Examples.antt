@@ -8,7 +8,7 @@ use Rattle.laws.specs.Answers.{Answer, accepted, refused, judged, outcome, orEl
 use Rattle.laws.specs.Booleans.{someBelow}
 use Rattle.laws.specs.Cases.{lowest, lower}
 use Rattle.drawing.specs.Colour.{storedPixel, rowColour, colour}
-use Rattle.drawing.specs.Drawing.{videoOff, paletteWrong, tooShort}
+use Rattle.drawing.specs.Drawing.{videoOff, paletteWrong}
 use Rattle.memory.specs.Memory.{outsideMemory, wordOutside, rowAddress, firstWord}
 use Rattle.panel.specs.Geometry.{storedBits, outsideModes, rowOffset}
 use Rattle.panel.specs.Refusals.{notTft, noSuchMode, swapsIllegal, rowSizeWrong, endDiffers, pastBank}
@@ -18,7 +18,7 @@ use Rattle.pixels.specs.Format.{format}
 use Rattle.pixels.specs.Order as Order
 use Rattle.pixels.specs.Pixel.{shown}
 use Rattle.registers.specs.Fields.{reservedBit}
-use Rattle.registers.specs.Loading.{inOrder}
+use Rattle.registers.specs.Loading.{inOrder, tooShort}
 use Rattle.signals.specs.Clock.{level, dataWord, inSync, showsPixel, clockOf, clockAt}
 use Rattle.signals.specs.Parts.{partAt, linePart, clockPart}
 use Rattle.signals.specs.Pixel.{inRow, spotOf, spotAt, pixelClock}

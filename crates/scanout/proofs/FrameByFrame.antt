@@ -9,8 +9,8 @@ use native.Mathlib.Decide.{decLt}
 use native.Mathlib.Omega.{arith}
 use lib.ListN.{length}
 use Rattle.laws.specs.Answers.{Answer, accepted, refused, judged, andThen, judged-accepted, orElse, numberOf}
-use Rattle.drawing.specs.Drawing.{tooShort, pixels}
-use Rattle.registers.specs.Loading.{load}
+use Rattle.drawing.specs.Drawing.{pixels}
+use Rattle.registers.specs.Loading.{load, tooShort}
 use Rattle.registers.specs.declared.Words.{Words}
 use Rattle.signals.specs.Clock.{clockAt}
 use Rattle.scanout.specs.Answers.{Shown, Taken}

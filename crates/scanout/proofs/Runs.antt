@@ -8,7 +8,8 @@ use borrow.Author.Tests.{ltb-false}
 use lib.ListN.{length, getD}
 use Rattle.laws.specs.Answers.{accepted, orElse}
 use Rattle.laws.specs.Storing.{stores, length-stores, entry-stored, entry-outside}
-use Rattle.drawing.specs.Drawing.{tooShort, pixels}
+use Rattle.drawing.specs.Drawing.{pixels}
+use Rattle.registers.specs.Loading.{tooShort}
 use Rattle.panel.specs.Geometry.{width, height}
 use Rattle.panel.specs.Timing.{timing}
 use Rattle.signals.proofs.Positions.{At}

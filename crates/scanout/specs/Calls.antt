@@ -6,10 +6,10 @@ use Prim.Native.Nat.{ℕ, zero, suc, _+_, _-_, _*_, min}
 use lib.ListN.{length, set}
 use Rattle.laws.specs.Answers.{Answer, judged, andThen, outcome}
 use Rattle.drawing.specs.Colour.{colour}
-use Rattle.drawing.specs.Drawing.{tooShort, pixels}
+use Rattle.drawing.specs.Drawing.{pixels}
 use Rattle.panel.specs.Geometry.{width}
 use Rattle.panel.specs.Timing.{timing}
-use Rattle.registers.specs.Loading.{load}
+use Rattle.registers.specs.Loading.{load, tooShort}
 use Rattle.registers.specs.declared.Words.{Words}
 use Rattle.signals.specs.Clock.{clockAt}
 use Rattle.signals.specs.Pixel.{spotAt}

@@ -2,7 +2,8 @@
 ghost use mathlib.Core.Path.{_≡_};
 ghost use Prim.Native.Nat.{_+_, _≤_};
 ghost use lib.ListN.{length};
-ghost use Rattle.drawing.specs.Drawing.{tooShort, pixels};
+ghost use Rattle.drawing.specs.Drawing.{pixels};
+ghost use Rattle.registers.specs.Loading.{tooShort};
 ghost use Rattle.scanout.specs.Answers.{ran};
 ghost use Rattle.scanout.specs.Calls.{countOf, run, drawn};
 ghost use Rattle.scanout.specs.Core.{lending, running};

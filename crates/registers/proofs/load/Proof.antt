@@ -4,16 +4,16 @@ use borrow.Author.Tests.{lt-ltb, le-ltb}
 use mathlib.Core.Path.{refl}
 use lib.Dec.{lit<}
 use Rattle.laws.specs.Answers.{one-refuses, one-accepts}
-use Rattle.registers.specs.Loading.{load, shortOfNine}
+use Rattle.registers.specs.Loading.{load, tooShort, shortOfNine}
 use Rattle.registers.proofs.load.Statement.{statement}
 use Rattle.registers.proofs.load.Tie as tie
 
 returns : tie.Need-returns
-unfolding load shortOfNine
+unfolding load tooShort shortOfNine
 returns c = one-refuses 10 _ _ (lit< tt) (lt-ltb _ _ (c .if1 .taken))
 
 returns-2 : tie.Need-returns-2
-unfolding load shortOfNine
+unfolding load tooShort shortOfNine
 returns-2 c =
     one-accepts 10 _ _ _ (le-ltb _ _ (c .before .before .before .before .before .before .before .before .before .if1 .left)) refl
 

@@ -5,7 +5,8 @@ use borrow.Author.Needs.{needs}
 use lib.ListN.{length}
 use Rattle.laws.specs.Answers.{leaves-as-it-was, leaves-written}
 use Rattle.laws.specs.Storing.{stores-as}
-use Rattle.drawing.specs.Drawing.{pixels, tooShort, judgeDrawing, colourInOrder, judgePicture, drawPicture}
+use Rattle.drawing.specs.Drawing.{pixels, judgeDrawing, colourInOrder, judgePicture, drawPicture}
+use Rattle.registers.specs.Loading.{tooShort}
 use Rattle.drawing.proofs.LentMemory.{lent-with-room}
 use Rattle.drawing.proofs.picture.draw_picture.Statement.{statement}
 use Rattle.drawing.proofs.picture.draw_picture.Tie as tie

@@ -7,7 +7,8 @@ use borrow.Author.Tests.{lt-ltb, le-ltb}
 use lib.ListN.{length}
 use Rattle.laws.specs.Answers.{leaves-as-it-was, leaves-written}
 use Rattle.laws.specs.Cases.{front-refuses, front-passes, stops, ends}
-use Rattle.drawing.specs.Drawing.{pixels, tooShort, stretchOutside, judgeDrawing, judgeStretch, drawStretch}
+use Rattle.drawing.specs.Drawing.{pixels, stretchOutside, judgeDrawing, judgeStretch, drawStretch}
+use Rattle.registers.specs.Loading.{tooShort}
 use Rattle.drawing.proofs.LentMemory.{lent-with-room}
 use Rattle.drawing.proofs.picture.draw_stretch.Statement.{statement}
 use Rattle.drawing.proofs.picture.draw_stretch.Tie as tie

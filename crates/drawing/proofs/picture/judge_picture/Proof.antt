@@ -1,6 +1,6 @@
 -- `drawing::picture::judge_picture` meets its contract. Assumes nothing.
 use borrow.Author.Needs.{needs}
-use Rattle.drawing.specs.Drawing.{tooShort}
+use Rattle.registers.specs.Loading.{tooShort}
 use Rattle.drawing.proofs.picture.judge_picture.Statement.{statement}
 use Rattle.drawing.proofs.picture.judge_picture.Tie as tie
 

@@ -9,7 +9,8 @@ use Rattle.laws.specs.Answers.{leaves-as-it-was, leaves-written}
 use Rattle.laws.specs.Cases.{front-refuses, front-passes, stops, ends}
 use Rattle.panel.specs.Geometry.{width, height}
 use Rattle.drawing.specs.Core.{Lent}
-use Rattle.drawing.specs.Drawing.{tooShort, rowOutside, judgeDrawing, judgeRow, drawRow}
+use Rattle.drawing.specs.Drawing.{rowOutside, judgeDrawing, judgeRow, drawRow}
+use Rattle.registers.specs.Loading.{tooShort}
 use Rattle.drawing.proofs.LentMemory.{lent-with-room, legal-lent, row-lent, row-after-start, row-drawn}
 use Rattle.drawing.proofs.row.draw_row.Statement.{statement}
 use Rattle.drawing.proofs.row.draw_row.Tie as tie

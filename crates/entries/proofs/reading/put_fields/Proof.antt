@@ -6,17 +6,18 @@ use mathlib.Core.Path.{sym}
 use Rattle.laws.specs.Answers.{leaves-as-it-was, leaves-written}
 use Rattle.laws.specs.Cases.{lowest-of-ascending-is-first, stops, ends}
 use Rattle.laws.specs.Storing.{stores}
+use Rattle.registers.specs.Loading.{tooShort}
 use Rattle.entries.specs.Reading.{putLcdcon1To4, putLcdcon5, putAddresses, putFields}
 use Rattle.entries.proofs.reading.put_fields.Statement.{statement}
 use Rattle.entries.proofs.reading.put_fields.Tie as tie
 
 returns : tie.Need-returns
-unfolding putFields
+unfolding putFields tooShort
 returns c =
     leaves-as-it-was 10 _ _ _ (stops _ _ _ _ (lowest-of-ascending-is-first 0 _ tt) (lt-ltb _ _ (c .if1 .taken))) (λ z. omega arith)
 
 returns-2 : tie.Need-returns-2
-unfolding putFields putLcdcon1To4 putLcdcon5 putAddresses stores
+unfolding putFields tooShort putLcdcon1To4 putLcdcon5 putAddresses stores
 returns-2 c =
     let con5 = c .before .before .before .before .before .before in
     let con1-to-4 = con5 .before .before .before .before in

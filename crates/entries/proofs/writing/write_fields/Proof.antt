@@ -6,25 +6,25 @@ use mathlib.Core.Bool.{Bool, true, false, _||_}
 use mathlib.Core.List.{List}
 use mathlib.Core.Path.{_≡_, ap, _∙_}
 use Prim.Native.Nat.{ℕ, _<_, _≤_}
-use lib.Dec.{ltb}
 use lib.ListN.{length}
 use Rattle.laws.specs.Answers.{one-refuses, one-accepts, writes-on, leaves-on}
 use Rattle.laws.specs.Booleans.{or-false, or-true}
+use Rattle.registers.specs.Loading.{tooShort}
 use Rattle.entries.specs.Writing.{tooFew, loadFields, writeFields}
 use Rattle.entries.proofs.writing.write_fields.Statement.{statement}
 use Rattle.entries.proofs.writing.write_fields.Tie as tie
 
 few-fields : (fields out : List ℕ) → length fields < 34 → tooFew fields out ≡ true
-unfolding tooFew
+unfolding tooFew tooShort
 few-fields fields out h = rw (lt-ltb _ _ h)
 
 few-words : (fields out : List ℕ) → length out < 9 → tooFew fields out ≡ true
-unfolding tooFew
+unfolding tooFew tooShort
 few-words fields out h =
-    ap (λ (b : Bool). ltb (length fields) 34 || b) (lt-ltb _ _ h) ∙ or-true (ltb (length fields) 34)
+    ap (λ (b : Bool). tooShort (length fields) 34 || b) (lt-ltb _ _ h) ∙ or-true (tooShort (length fields) 34)
 
 enough : (fields out : List ℕ) → 34 ≤ length fields → 9 ≤ length out → tooFew fields out ≡ false
-unfolding tooFew
+unfolding tooFew tooShort
 enough fields out h k = or-false (le-ltb _ _ h) (le-ltb _ _ k)
 
 returns : tie.Need-returns

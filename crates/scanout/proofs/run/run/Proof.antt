@@ -4,7 +4,7 @@ use Prim.Native.Nat.{ℕ, _+_, _<_, _≤_}
 use native.Mathlib.Omega.{arith}
 use borrow.Author.Needs.{needs}
 use Rattle.laws.specs.Answers.{Outcome, gives-refusal, gives-answer, leaves-as-it-was, leaves-written}
-use Rattle.drawing.specs.Drawing.{tooShort}
+use Rattle.registers.specs.Loading.{tooShort}
 use Rattle.scanout.specs.Calls.{countOf, drawn, judgeRun, run}
 use Rattle.scanout.specs.Core.{lending, running}
 use Rattle.scanout.specs.State.{frameOf, after}

@@ -1,0 +1,31 @@
+-- `scans::put_started` meets its contract. Assumes nothing.
+use native.Mathlib.Omega.{arith}
+use borrow.Author.Needs.{needs}
+use borrow.Author.Tests.{lt-ltb, le-ltb}
+use mathlib.Core.Path.{sym}
+use Rattle.laws.specs.Answers.{leaves-as-it-was, leaves-written}
+use Rattle.laws.specs.Cases.{lowest-of-ascending-is-first, stops, ends}
+use Rattle.registers.specs.Loading.{tooShort}
+use Rattle.scans.specs.Scan.{putStarted}
+use Rattle.scans.proofs.put_started.Statement.{statement}
+use Rattle.scans.proofs.put_started.Tie as tie
+
+returns : tie.Need-returns
+unfolding putStarted tooShort
+returns c =
+    leaves-as-it-was 10 _ _ _ (stops _ _ _ _ (lowest-of-ascending-is-first 0 _ tt) (lt-ltb _ _ (c .if1 .taken))) (λ z. omega arith)
+
+returns-2 : tie.Need-returns-2
+unfolding putStarted tooShort
+returns-2 c =
+    leaves-written _ _ _ _ (sym (ends _ _ _ (lowest-of-ascending-is-first 0 _ tt) (le-ltb _ _ (c .before .before .before .before .if1 .left))))
+    (c .before .before .put-state .ensures)
+
+pub put-started-spec : {M : Type 1} → statement M
+put-started-spec =
+    tie.close
+    (tie.spec
+    returns
+    (λ c κs. search needs)
+    (λ c. search needs)
+    returns-2)

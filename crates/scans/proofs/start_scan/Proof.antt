@@ -1,0 +1,33 @@
+-- `scans::start_scan` meets its contract. Assumes nothing.
+use borrow.Author.Needs.{needs}
+use mathlib.Core.Path.{sym, ap, _∙_}
+use Rattle.laws.specs.Answers.{writes-on, leaves-on}
+use Rattle.scanout.specs.Answers.{started}
+use Rattle.scans.specs.Scan.{startScan}
+use Rattle.scans.proofs.start_scan.Statement.{statement}
+use Rattle.scans.proofs.start_scan.Tie as tie
+
+returns : tie.Need-returns
+unfolding startScan
+returns c =
+    let s = c .before .before .before .before .before .s .given in
+    writes-on _ _ _ (s .0 .0) _
+    (sym (ap started (s .1)) ∙ c .before .before .before .before .before .before .before .start .ensures) (c .before .before .put-started .ensures)
+
+returns-2 : tie.Need-returns-2
+unfolding startScan
+returns-2 c =
+    let n = c .before .n .given in
+    leaves-on _ _ _ (n .0 .0) (sym (ap started (n .1)) ∙ c .before .before .before .start .ensures)
+
+pub start-scan-spec : {M : Type 1} → statement M
+start-scan-spec =
+    tie.close
+    (tie.spec
+    (λ c κs. tt)
+    (λ c. search needs)
+    (λ c κs. tt)
+    (λ c. search needs)
+    (λ c. search needs)
+    returns
+    returns-2)

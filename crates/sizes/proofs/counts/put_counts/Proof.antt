@@ -1,0 +1,42 @@
+-- `sizes::counts::put_counts` meets its contract. Assumes nothing.
+use native.Mathlib.Omega.{arith}
+use borrow.Author.Needs.{needs}
+use borrow.Author.Tests.{lt-ltb, le-ltb}
+use mathlib.Core.Path.{sym}
+use lib.ListN.{length-set}
+use Rattle.laws.specs.Answers.{leaves-as-it-was, leaves-written}
+use Rattle.laws.specs.Cases.{lowest-of-ascending-is-first, stops, ends}
+use Rattle.laws.specs.Storing.{stores}
+use Rattle.registers.specs.Loading.{tooShort}
+use Rattle.sizes.specs.Counts.{putCounts}
+use Rattle.sizes.proofs.counts.put_counts.Statement.{statement}
+use Rattle.sizes.proofs.counts.put_counts.Tie as tie
+
+returns : tie.Need-returns
+unfolding putCounts tooShort
+returns c =
+    leaves-as-it-was 10 _ _ _ (stops _ _ _ _ (lowest-of-ascending-is-first 0 _ tt) (lt-ltb _ _ (c .if1 .taken))) (λ z. omega arith)
+
+slice-write-counts-2 : tie.Need-slice-write-counts-2
+slice-write-counts-2 c = simp length-set (omega arith)
+
+returns-2 : tie.Need-returns-2
+unfolding putCounts tooShort stores
+returns-2 c =
+    leaves-written _ _ _ _ (sym (ends _ _ _ (lowest-of-ascending-is-first 0 _ tt) (le-ltb _ _ (c .before .before .before .if1 .left))))
+    (rw (c .before .before .frame-clocks .ensures, c .before .frame-ticks .ensures, c .frame-millihertz .ensures))
+
+pub put-counts-spec : {M : Type 1} → statement M
+put-counts-spec =
+    tie.close
+    (tie.spec
+    returns
+    (λ c κs. tt)
+    (λ c. search needs)
+    (λ c κs. tt)
+    (λ c κs. tt)
+    (λ c. search needs)
+    slice-write-counts-2
+    (λ c. search needs)
+    (λ c. search needs)
+    returns-2)

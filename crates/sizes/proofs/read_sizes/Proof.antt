@@ -1,0 +1,33 @@
+-- `sizes::read_sizes` meets its contract. Assumes nothing.
+use borrow.Author.Needs.{needs}
+use mathlib.Core.Path.{sym, ap, _∙_}
+use Rattle.laws.specs.Answers.{writes-on, leaves-on}
+use Rattle.registers.specs.Loading.{loaded}
+use Rattle.sizes.specs.Sizes.{readSizes}
+use Rattle.sizes.proofs.read_sizes.Statement.{statement}
+use Rattle.sizes.proofs.read_sizes.Tie as tie
+
+returns : tie.Need-returns
+unfolding readSizes
+returns c =
+    let w = c .before .before .before .before .before .w .given in
+    writes-on _ _ _ (w .0 .0) _
+    (sym (ap loaded (w .1)) ∙ c .before .before .before .before .before .before .before .load .ensures) (c .before .before .read-sizes-of .ensures)
+
+returns-2 : tie.Need-returns-2
+unfolding readSizes
+returns-2 c =
+    let n = c .before .n .given in
+    leaves-on _ _ _ (n .0 .0) (sym (ap loaded (n .1)) ∙ c .before .before .before .load .ensures)
+
+pub read-sizes-spec : {M : Type 1} → statement M
+read-sizes-spec =
+    tie.close
+    (tie.spec
+    (λ c κs. tt)
+    (λ c. search needs)
+    (λ c κs. tt)
+    (λ c. search needs)
+    (λ c. search needs)
+    returns
+    returns-2)

@@ -1,0 +1,25 @@
+-- A frame's counts to a lent slice (document 01, "Clocks and lines" and "Numbers of refusal"). Assumes nothing.
+use mathlib.Core.List.{List, [], _∷_}
+use Prim.Native.Nat.{ℕ}
+use lib.ListN.{length, getD}
+use Rattle.laws.specs.Answers.{Outcome, outcome, outcomeOn}
+use Rattle.laws.specs.Cases.{_when_, lowest}
+use Rattle.laws.specs.Storing.{stores}
+use Rattle.panel.specs.Counts.{frameTicks, frameRate}
+use Rattle.panel.specs.Refusals.{accept}
+use Rattle.panel.specs.Timing.{timing, frameClocks}
+use Rattle.registers.specs.Loading.{tooShort}
+use Rattle.registers.specs.declared.Words.{Words}
+
+-- clocks, HCLK ticks and millihertz, in this order
+abbrev pub numbers : Words → ℕ → List ℕ
+numbers w hclk = frameClocks (timing w) ∷ frameTicks w ∷ frameRate w hclk ∷ []
+
+-- 10: fewer than three entries for the counts
+unfoldable pub putCounts : Words → ℕ → List ℕ → Outcome
+putCounts w hclk out =
+    outcome (lowest (10 when tooShort (length out) 3 ∷ [])) out (stores (λ i. getD (numbers w hclk) i 0) 0 3 out)
+
+-- of words that 1 to 7 pass
+unfoldable pub readCounts : List ℕ → ℕ → List ℕ → Outcome
+readCounts words hclk out = outcomeOn (accept words) out (λ w. putCounts w hclk out)

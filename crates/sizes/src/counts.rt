@@ -1,0 +1,36 @@
+// A frame's clocks, HCLK ticks and rate, to a lent slice of three entries (document 01, "Clocks and lines").
+ghost use mathlib.Core.Path.{_≡_};
+ghost use Rattle.laws.specs.Answers.{leaves};
+ghost use Rattle.sizes.specs.Counts.{putCounts, readCounts};
+use panel::refusals::accept;
+use panel::timing::frame_clocks;
+use panel::timing::frame_millihertz;
+use panel::timing::frame_ticks;
+use registers::Loaded;
+use registers::Words;
+
+fn put_counts(w: Words, hclk: u32, counts: &mut [u64]) -> u32
+    ensures { λ r. ⌜ leaves r (now (counts .exit)) ≡ putCounts w hclk (now (counts .entry)) ⌝ }
+{
+    if counts.len() < 3 {
+        return 10;
+    }
+    let clocks = frame_clocks(w) as u64;
+    let ticks = frame_ticks(w);
+    let rate = frame_millihertz(w, hclk);
+    counts[0] = clocks;
+    counts[1] = ticks;
+    counts[2] = rate;
+    0
+}
+
+// The frame's clocks, its HCLK ticks and its rate in millihertz, to the first three entries of `counts`; the others stay. 10 for
+// a slice short of nine words, then 1 to 7, then 10 where `counts` has fewer than three entries.
+pub fn read_counts(words: &[u32], hclk: u32, counts: &mut [u64]) -> u32
+    ensures { λ r. ⌜ leaves r (now (counts .exit)) ≡ readCounts (now (words .entry)) hclk (now (counts .entry)) ⌝ }
+{
+    match accept(words) {
+        Loaded::Nine(w) => put_counts(w, hclk, counts),
+        Loaded::Refused(n) => n,
+    }
+}
