@@ -37,4 +37,4 @@ module _ (s : State) (scan : List ℕ) (room : 18 ≤ length scan) where
   unfolding putRun
   state-of-a-run-is-read count =
       reads s (putRun count s scan)
-      (λ i h. getD-set-other (putState s scan) 17 i count 0 (λ e. omega arith) ∙ stored i h)
+      (λ i h. getD-set-other (putState s scan) _ i count 0 (λ e. omega arith) ∙ stored i h)
