@@ -1,14 +1,15 @@
 // Lookups through a reader, held against the plain forms: one pixel against `draw_pixel`, a row and a picture entry by entry against
 // what was drawn.
-use super::calls::Call;
-use super::calls::Case;
-use super::report::agrees;
-use super::text::word_at;
+use super::calls::Shape;
 use drawing::picture::pixels_of;
 use drawing::pixel::Drawn;
 use panel::geometry::width;
 use reader::read_pixel;
 use registers::Words;
+use vectors::case::Case;
+use vectors::listed::up_to;
+use vectors::report::agrees;
+use vectors::text::low_32;
 
 // A pixel by its row and column.
 pub(crate) struct Place {
@@ -26,7 +27,6 @@ fn number_of(d: Drawn) -> u64 {
 
 // Whether a reader gives for a pixel what the plain form gave.
 pub(crate) fn lookup_agrees(
-    group: &[u8],
     case: Case,
     w: Words,
     palette: &[u16],
@@ -36,13 +36,7 @@ pub(crate) fn lookup_agrees(
 ) -> bool {
     let lent = case.lent;
     let read = read_pixel(w, lent.start, video, palette, place.row, place.column);
-    agrees(
-        group,
-        case.line,
-        b"reader",
-        number_of(read),
-        number_of(plain),
-    )
+    agrees(case, b"reader", number_of(read), number_of(plain))
 }
 
 // The next pixel in reading order.
@@ -62,7 +56,6 @@ fn next_place(place: Place, wide: u32) -> Place {
 
 // Whether a reader gives each of these entries, which were drawn in reading order from the first column of a row on.
 fn entries_read(
-    group: &[u8],
     case: Case,
     w: Words,
     palette: &[u16],
@@ -76,7 +69,7 @@ fn entries_read(
     let mut i = 0;
     while i < drawn.len() {
         let plain = Drawn::Colour(drawn[i]);
-        right = lookup_agrees(group, case, w, palette, video, place, plain) & right;
+        right = lookup_agrees(case, w, palette, video, place, plain) & right;
         place = next_place(place, wide);
         i += 1;
     }
@@ -84,37 +77,31 @@ fn entries_read(
 }
 
 // How many entries from the first on an accepted call has drawn; a stretch begins elsewhere.
-fn drawn_from_the_first(call: Call, w: Words) -> usize {
-    match call {
-        Call::Row => width(w) as usize,
-        Call::Picture => pixels_of(w) as usize,
+fn drawn_from_the_first(shape: Shape, w: Words) -> u64 {
+    match shape {
+        Shape::Row => width(w) as u64,
+        Shape::Picture => pixels_of(w) as u64,
         _ => 0,
     }
 }
 
-fn first_row(text: &[u8], case: Case) -> u32 {
-    let call = case.call;
-    match call {
-        Call::Row => word_at(text, case.at, 1),
+fn first_row(case: Case, shape: Shape) -> u32 {
+    let given = case.given;
+    match shape {
+        Shape::Row => low_32(given.second),
         _ => 0,
     }
 }
 
 // Whether a reader gives what an accepted row or picture drawing left in `out`.
 pub(crate) fn drawing_read(
-    group: &[u8],
-    text: &[u8],
     case: Case,
+    shape: Shape,
     w: Words,
     palette: &[u16],
     video: &[u32],
     out: &[u32],
 ) -> bool {
-    let call = case.call;
-    let n = drawn_from_the_first(call, w);
-    let row = first_row(text, case);
-    if out.len() < n {
-        return false;
-    }
-    entries_read(group, case, w, palette, video, row, &out[..n])
+    let n = up_to(drawn_from_the_first(shape, w), out);
+    entries_read(case, w, palette, video, first_row(case, shape), &out[..n])
 }
