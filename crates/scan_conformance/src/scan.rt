@@ -1,7 +1,7 @@
 // The calls of a scan. Its state and its picture are kept from line to line: a call gets the state that the one before returned,
 // after a refusal the old one, and a run the picture as the one before left it.
 use super::state::numbers_of;
-use super::state::state_of;
+use super::state::state_at;
 use in_place::Clocked;
 use in_place::step_local;
 use scanout::run::Ran;
@@ -30,7 +30,6 @@ use vectors::report::name_form;
 use vectors::report::value_agrees;
 use vectors::text::key_at;
 use vectors::text::low_32;
-use vectors::text::words;
 
 // What is kept from line to line: the state of the scan, how many entries of the picture a run is lent, and the tally.
 pub(crate) struct Scan {
@@ -41,7 +40,7 @@ pub(crate) struct Scan {
 
 // Before any line: all numbers of the state 0, so that every call refuses it.
 pub(crate) fn nothing_kept() -> Scan {
-    let state = state_of([0; 13]);
+    let state = state_at(b"", 0);
     let tally = Tally {
         cases: 0,
         differ: 0,
@@ -71,9 +70,7 @@ fn moves(kept: Scan, right: bool, state: State) -> Scan {
 // A line `state ..` brings a state from outside.
 pub(crate) fn bring_state(text: &[u8], case: Case, kept: Scan) -> Scan {
     let mut k = kept;
-    let mut numbers = [0u32; 13];
-    words(text, case.given_at, &mut numbers);
-    let state = state_of(numbers);
+    let state = state_at(text, case.given_at);
     k.state = state;
     k
 }

@@ -2,29 +2,38 @@
 use registers::Words;
 use scanout::state::State;
 use scanout::state::Viewport;
+use vectors::text::word_at;
 
-// The state of these numbers.
-pub(crate) fn state_of(numbers: [u32; 13]) -> State {
-    let words = Words {
-        lcdcon1: numbers[0],
-        lcdcon2: numbers[1],
-        lcdcon3: numbers[2],
-        lcdcon4: numbers[3],
-        lcdcon5: numbers[4],
-        lcdsaddr1: numbers[5],
-        lcdsaddr2: numbers[6],
-        lcdsaddr3: numbers[7],
-        tpal: numbers[8],
-    };
-    let pending = Viewport {
-        lcdsaddr1: numbers[10],
-        lcdsaddr2: numbers[11],
-    };
+fn words_at(text: &[u8], at: usize) -> Words {
+    Words {
+        lcdcon1: word_at(text, at, 0),
+        lcdcon2: word_at(text, at, 1),
+        lcdcon3: word_at(text, at, 2),
+        lcdcon4: word_at(text, at, 3),
+        lcdcon5: word_at(text, at, 4),
+        lcdsaddr1: word_at(text, at, 5),
+        lcdsaddr2: word_at(text, at, 6),
+        lcdsaddr3: word_at(text, at, 7),
+        tpal: word_at(text, at, 8),
+    }
+}
+
+fn pending_at(text: &[u8], at: usize) -> Viewport {
+    Viewport {
+        lcdsaddr1: word_at(text, at, 10),
+        lcdsaddr2: word_at(text, at, 11),
+    }
+}
+
+// The state that a line's numbers from `at` on give.
+pub(crate) fn state_at(text: &[u8], at: usize) -> State {
+    let words = words_at(text, at);
+    let pending = pending_at(text, at);
     State {
         words,
-        window_start: numbers[9],
+        window_start: word_at(text, at, 9),
         pending,
-        position: numbers[12],
+        position: word_at(text, at, 12),
     }
 }
 
