@@ -171,7 +171,7 @@ fn view_agrees(case: Case, kept: Scan, video: &[u32]) -> Scan {
     }
 }
 
-// What is kept after a line that may make a call; it is made with what is lent.
+// What is kept after a line that may make a call; it is made with what is lent, at most 1,024 video words.
 pub(crate) fn run_call(
     text: &[u8],
     at: usize,
@@ -182,7 +182,7 @@ pub(crate) fn run_call(
     let lent = case.lent;
     let mut palette = [0u16; 260];
     let n = lend_palette(text, lent, &mut palette);
-    let mut video = [0u32; 40960];
+    let mut video = [0u32; 1024];
     let m = lend_video(text, lent, &mut video);
     match key_at(text, at, b"begin step run view") {
         0 => begin_agrees(text, case, kept, &video[..m]),
