@@ -1,6 +1,5 @@
 #!/usr/bin/env python3
-"""Writes the vectors of crates/conformance and crates/scan_conformance: data/ (a file for each group), args and stdout. It takes no
-arguments.
+"""Writes the vectors of crates/conformance: data/ (a file for each group), args and stdout. It takes no arguments.
 
 What is due is worked out here by itself, from document 01's sentences, and nowhere from the library: words are strings of 32
 characters '0' and '1', a field is a piece of such a string, a row is the string of all its stored bits, a pixel the next S
@@ -347,7 +346,7 @@ PALETTE = [w % 2**16 for w in noise(256, 2410)]
 
 # ---- the files
 
-HEADER = """# Vectors of the program {program}. Made by host/vectors.py, which says how the answers were found.
+HEADER = """# Vectors of the conformance program. Made by host/vectors.py, which says how the answers were found.
 #
 # Every number is hexadecimal: refusal 10 is a, 11 is b. A line begins with its key; other lines say nothing.
 # Settings hold from their line on:
@@ -357,9 +356,7 @@ HEADER = """# Vectors of the program {program}. Made by host/vectors.py, which s
 #   counted N FIRST STEP      N video words instead: FIRST, FIRST + STEP, FIRST + 2 x STEP, .., modulo 2^32
 #   start A                   the window start
 #   hclk N                    HCLK in Hz
-"""
-# The calls that each program makes.
-PROGRAMS = {"conformance": """# Calls, each one case. After '=' stands what is due: the number of the refusal or 0, then the values where it is 0:
+# Calls, each one case. After '=' stands what is due: the number of the refusal or 0, then the values where it is 0:
 #   check =
 #   counts =                  clocks and HCLK ticks of a frame
 #   rate =                    millihertz
@@ -368,12 +365,11 @@ PROGRAMS = {"conformance": """# Calls, each one case. After '=' stands what is d
 #   picture LENT =            the same
 #   stretch LENT FIRST COUNT = the entries from FIRST on
 # Entries that are not listed are due as they were before the call, so all of them where it is refused.
-""", "scan_conformance": """# A scan is kept from line to line: each call gets the state that the one before returned, after a refusal the old one, and each
+# A scan is kept from line to line: each call gets the state that the one before returned, after a refusal the old one, and each
 # run the picture as the one before left it. Settings:
 #   state ..                  a state from outside: nine words, window start, waiting LCDSADDR1 and 2, position
 #   canvas N VALUE            a new picture of N entries, each VALUE
-# Calls, each one case. After '=' stands what is due: the number of the refusal or 0, then the values where it is 0; the state brings
-# its own words and window start:
+# Calls, with the refusal or 0 due as above; the state brings its own words and window start:
 #   begin =                   a start with the words, window start and video words lent
 #   step =                    VSYNC, HSYNC, VDEN and the data word
 #   run CLOCKS =              how many it took
@@ -381,18 +377,17 @@ PROGRAMS = {"conformance": """# Calls, each one case. After '=' stands what is d
 # Looks, each one case, with what is due alone:
 #   at = ..                   the 13 numbers of the state
 #   shows = ..                all entries of the picture
-"""}
+"""
 # What a call is lent, by the keys of the settings.
 LENT = {"counts": "words", "rate": "words hclk", "check": "words video start", "begin": "words video start",
         "step": "video palette", "run": "video palette", "view": "video", "at": "", "shows": ""}
-GROUPS = {program: {} for program in PROGRAMS}
+GROUPS = {}
 
 
 class Group:
-    def __init__(self, name, about, program="conformance"):
-        self.text = [HEADER.format(program=program), PROGRAMS[program], f"# This group: {about}\n"]
-        self.cases, self.now = 0, {}
-        GROUPS[program][name] = self
+    def __init__(self, name, about):
+        self.text, self.cases, self.now = [HEADER, f"# This group: {about}\n"], 0, {}
+        GROUPS[name] = self
 
     def setting(self, key, values):
         kind = "video" if key == "counted" else key
@@ -429,12 +424,7 @@ class Group:
         """One call that keeps nothing."""
         self.write(about, lent, call, args, worked_out(lent, call, *args), due)
 
-
-class ScanGroup(Group):
-    """Each call changes self.scan and self.picture as it is due, and writes its line."""
-
-    def __init__(self, name, about):
-        super().__init__(name, about, "scan_conformance")
+    # the scan: each call changes self.scan and self.picture as it is due, and writes its line
 
     def begin(self, about, lent, due=None):
         n = refusal(lent, "begin")
@@ -786,7 +776,7 @@ ALL = 2**64 - 1  # clocks: more than any frame has
 
 
 def scan_cases():
-    g = ScanGroup("scan", "steps through more than two frames in every mode: each clock's signals, the state now and then")
+    g = Group("scan", "steps through more than two frames in every mode: each clock's signals, the state now and then")
     for depth, width, height, around, other in (
             (32, 3, 2, (0, 0, 0, 0, 0, 0), {}), (32, 3, 2, (1, 2, 0, 0, 1, 2), {"BPP24BL": 1, "OFFSIZE": 4}),
             (16, 2, 3, (2, 0, 1, 1, 0, 0), {"FRM565": 1, "HWSWP": 1}), (16, 4, 1, (0, 3, 2, 2, 1, 0), {"OFFSIZE": 2}),
@@ -806,7 +796,7 @@ def scan_cases():
 
 
 def signal_cases():
-    g = ScanGroup("signals", "a frame with each of INVVFRAME, INVVLINE, INVVDEN and INVVD, with all, with the temporary palette")
+    g = Group("signals", "a frame with each of INVVFRAME, INVVLINE, INVVDEN and INVVD, with all, with the temporary palette")
     around = porches(1, 0, 1, 1, 0, 0)
     four = ("INVVFRAME", "INVVLINE", "INVVDEN", "INVVD")
     tpal = {"TPALEN": 1, "TPALVAL": 0x12F00F}
@@ -862,7 +852,7 @@ def long_frame(g):
 
 
 def run_cases():
-    g = ScanGroup("runs", "steps and runs mixed, one picture lent to all runs, a frame of many short runs, counts of up to 2^64 - 1")
+    g = Group("runs", "steps and runs mixed, one picture lent to all runs, a frame of many short runs, counts of up to 2^64 - 1")
     shape = dict(depth=16, width=4, height=3, **porches(0, 1, 0, 0, 0, 1))
     words = panel(**shape, INVVD=1, INVVDEN=1)  # 8 clocks a line, 7 lines
     view = lambda baseu: panel(**shape, LCDBASEU=baseu)[5:7]
@@ -916,7 +906,7 @@ def run_cases():
 
 
 def view_cases():
-    g = ScanGroup("views", "view changes in mid-frame, at position 0, twice in a frame, refused; clock 0 alone brings a view")
+    g = Group("views", "view changes in mid-frame, at position 0, twice in a frame, refused; clock 0 alone brings a view")
     shape = dict(depth=8, width=4, height=2, FRM565=1, **porches(0, 0, 0, 0, 0, 0))
     words = panel(**shape)  # 7 clocks a line, 5 lines
     view = lambda baseu, **other: panel(**shape, LCDBASEU=baseu, **other)[5:7]
@@ -1122,16 +1112,15 @@ def starts(g):
 
 
 def state_cases():
-    g = ScanGroup("states", "states from outside: each refusal of step, run and view change, the lowest over all views; starts")
+    g = Group("states", "states from outside: each refusal of step, run and view change, the lowest over all views; starts")
     g.canvas(8, 0x77)
     for make in (refused_states, several_views, late_numbers, positions, starts):
         make(g)
 
 
-def hand_scan():
+def hand_scan(g):
     """T1's panel: 4 clocks a line, 1 each of sync, back porch, active and front porch; 5 lines, 1, 1, 2 and 1 of these. So row 0
     is at clock (1 + 1 + 0) x 4 + 1 + 1 = 10 of 20 and row 1 at clock 14."""
-    g = ScanGroup("hand", "scans of small panels, answers written by hand")
     t1 = [0x7B, 0x4000, 0, 0, 0, 0x18000000, 4, 2, 0]
     lent = Lent(t1, video=[0x00112233, 0x00AABBCC, 0x00445566, 0x00778899], palette=range(256))
     sync, back, front = [[0, 1, 1, 0, 0]] + 3 * [[0, 1, 0, 0, 0]], *2 * [[[0, 0, 1, 0, 0]] + 3 * [[0, 0, 0, 0, 0]]]
@@ -1305,24 +1294,23 @@ def hand():
     g.case("row 2", lend(t1, two), "row", 1, 2, due=[11])
     g.case("column 1", lend(t1, two), "pixel", 0, 1, due=[11])
     g.case("a stretch past the end", lend(t1, two), "stretch", 2, 1, 2, due=[11])
+    hand_scan(g)
 
 
 def main():
-    for make in (hand, modes, colour_cases, screens, refusals, pairs, memory, count_cases, calls, hand_scan, scan_cases,
-                 signal_cases, run_cases, view_cases, state_cases):
+    for make in (hand, modes, colour_cases, screens, refusals, pairs, memory, count_cases, calls, scan_cases, signal_cases,
+                 run_cases, view_cases, state_cases):
         make()
-    crates = os.path.join(os.path.dirname(os.path.abspath(__file__)), "..", "crates")
-    for program, groups in GROUPS.items():
-        folder = os.path.join(crates, program)
-        os.makedirs(os.path.join(folder, "data"), exist_ok=True)
-        for name, group in groups.items():
-            with open(os.path.join(folder, "data", name), "w") as f:
-                f.write("".join(group.text))
-        with open(os.path.join(folder, "args"), "w") as f:
-            f.write("".join(f"{name}\n" for name in groups))
-        with open(os.path.join(folder, "stdout"), "w") as f:
-            f.write("".join(f"{name} {group.cases} ok\n" for name, group in groups.items()))
-        print(program, "".join(f" {name} {group.cases}" for name, group in groups.items()), sep="")
+    folder = os.path.join(os.path.dirname(os.path.abspath(__file__)), "..", "crates", "conformance")
+    os.makedirs(os.path.join(folder, "data"), exist_ok=True)
+    for name, group in GROUPS.items():
+        with open(os.path.join(folder, "data", name), "w") as f:
+            f.write("".join(group.text))
+    with open(os.path.join(folder, "args"), "w") as f:
+        f.write("".join(f"{name}\n" for name in GROUPS))
+    with open(os.path.join(folder, "stdout"), "w") as f:
+        f.write("".join(f"{name} {group.cases} ok\n" for name, group in GROUPS.items()))
+    print("".join(f"{name} {group.cases}\n" for name, group in GROUPS.items()), end="")
 
 
 if __name__ == "__main__":

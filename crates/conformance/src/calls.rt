@@ -1,8 +1,19 @@
 // The calls that draw: a pixel, a row, a picture, a stretch. Each is made with what is lent, and its answer held to what the line says
 // is due: the number of the refusal or 0, then the entries.
+use super::case::Case;
+use super::lent::lend_palette;
+use super::lent::lend_video;
+use super::lent::lend_words;
+use super::listed::entries_agree;
+use super::listed::prefill;
+use super::listed::up_to;
 use super::lookups::Place;
 use super::lookups::drawing_read;
 use super::lookups::lookup_agrees;
+use super::report::answer_agrees;
+use super::report::number_agrees;
+use super::report::value_agrees;
+use super::text::low_32;
 use drawing::picture::draw_picture;
 use drawing::picture::draw_stretch;
 use drawing::pixel::Drawn;
@@ -11,17 +22,6 @@ use drawing::row::draw_row;
 use registers::Loaded;
 use registers::Words;
 use registers::load;
-use vectors::case::Case;
-use vectors::lent::lend_palette;
-use vectors::lent::lend_video;
-use vectors::lent::lend_words;
-use vectors::listed::entries_agree;
-use vectors::listed::prefill;
-use vectors::listed::up_to;
-use vectors::report::answer_agrees;
-use vectors::report::number_agrees;
-use vectors::report::value_agrees;
-use vectors::text::low_32;
 
 pub(crate) enum Shape {
     Pixel,

@@ -1,20 +1,27 @@
 // The lines of a vector file: settings, calls, and what is neither.
 use super::calls::Shape;
 use super::calls::drawing_agrees;
-use vectors::case::Case;
-use vectors::case::Tally;
-use vectors::case::case_at;
-use vectors::case::counted;
-use vectors::frame::check_agrees;
-use vectors::frame::counts_agree;
-use vectors::frame::rate_agrees;
-use vectors::lent::nothing_lent;
-use vectors::lent::set;
-use vectors::text::key_at;
-use vectors::text::next_line;
+use super::case::Case;
+use super::case::Tally;
+use super::case::case_at;
+use super::case::counted;
+use super::frame::check_agrees;
+use super::frame::counts_agree;
+use super::frame::rate_agrees;
+use super::lent::nothing_lent;
+use super::lent::set;
+use super::scan::Scan;
+use super::scan::at_agrees;
+use super::scan::bring_state;
+use super::scan::nothing_kept;
+use super::scan::paint;
+use super::scan::picture_agrees;
+use super::scan::run_call;
+use super::text::key_at;
+use super::text::next_line;
 
-// The tally after a line: a call's has one case more.
-fn run_line(text: &[u8], at: usize, case: Case, tally: Tally) -> Tally {
+// The tally after a line that may make a call of those that keep nothing.
+fn run_plain(text: &[u8], at: usize, case: Case, tally: Tally) -> Tally {
     match key_at(text, at, b"check counts rate pixel row picture stretch") {
         0 => counted(tally, check_agrees(text, case)),
         1 => counted(tally, counts_agree(text, case)),
@@ -27,20 +34,38 @@ fn run_line(text: &[u8], at: usize, case: Case, tally: Tally) -> Tally {
     }
 }
 
+fn keep_tally(text: &[u8], at: usize, case: Case, kept: Scan) -> Scan {
+    let mut k = kept;
+    let tally = run_plain(text, at, case, kept.tally);
+    k.tally = tally;
+    k
+}
+
+// What is kept after a line.
+fn run_line(text: &[u8], at: usize, case: Case, kept: Scan, picture: &mut [u32]) -> Scan {
+    match key_at(text, at, b"begin step run view state canvas at shows") {
+        0..=3 => run_call(text, at, case, kept, picture),
+        4 => bring_state(text, case, kept),
+        5 => paint(case, kept, picture),
+        6 => at_agrees(text, case, kept),
+        7 => picture_agrees(text, case, kept, picture),
+        _ => keep_tally(text, at, case, kept),
+    }
+}
+
 // Runs a file's cases, line after line.
 pub(crate) fn run_lines(group: usize, text: &[u8]) -> Tally {
-    let mut tally = Tally {
-        cases: 0,
-        differ: 0,
-    };
+    let mut kept = nothing_kept();
     let mut lent = nothing_lent(text);
+    let mut picture = [0u32; 1024];
     let mut line = 1;
     let mut at = 0;
     while at < text.len() {
-        tally = run_line(text, at, case_at(text, at, group, line, lent), tally);
+        let case = case_at(text, at, group, line, lent);
+        kept = run_line(text, at, case, kept, &mut picture);
         lent = set(text, at, lent);
         at = next_line(text, at);
         line = std::num::wrapping_add_u64(line, 1);
     }
-    tally
+    kept.tally
 }

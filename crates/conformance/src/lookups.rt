@@ -1,15 +1,15 @@
 // Lookups through a reader, held against the plain forms: one pixel against `draw_pixel`, a row and a picture entry by entry against
 // what was drawn.
 use super::calls::Shape;
+use super::case::Case;
+use super::listed::up_to;
+use super::report::agrees;
+use super::text::low_32;
 use drawing::picture::pixels_of;
 use drawing::pixel::Drawn;
 use panel::geometry::width;
 use reader::read_pixel;
 use registers::Words;
-use vectors::case::Case;
-use vectors::listed::up_to;
-use vectors::report::agrees;
-use vectors::text::low_32;
 
 // A pixel by its row and column.
 pub(crate) struct Place {

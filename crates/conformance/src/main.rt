@@ -1,15 +1,24 @@
 // The conformance program: runs the vectors of data/ through the library's calls (document 01: "Where a pixel lies", "Colours",
 // "Clocks and lines", "Numbers of refusal"). Each argument names a file of data/, a group of cases; data/hand says at its top
-// what such a file looks like. Pixels, rows and pictures are also looked up through a reader, against the plain forms. The program
-// prints a line for every answer that differs and, for each group, its name and how many cases it has, all well or how many differ.
+// what such a file looks like. Pixels, rows and pictures are also looked up through a reader, and steps taken in place, against the
+// plain forms. The program prints a line for every answer that differs and, for each group, its name and how many cases it has, all
+// well or how many differ.
 mod calls;
+mod case;
+mod frame;
+mod lent;
 mod lines;
+mod listed;
 mod lookups;
+mod report;
+mod scan;
+mod state;
+mod text;
 
 use lines::run_lines;
-use vectors::report::open_group;
-use vectors::report::print_group;
-use vectors::report::print_too_long;
+use report::open_group;
+use report::print_group;
+use report::print_too_long;
 
 // A file that fills the buffer may be longer, so it is not run.
 fn run_file(group: usize, fd: i32) {

@@ -1,0 +1,97 @@
+// What the cases of a vector file are lent: the settings that hold from their line on.
+ghost use Rattle.io.specs.Counts.{Counts};
+use super::listed::count_up;
+use super::text::Until;
+use super::text::halves;
+use super::text::key_at;
+use super::text::number_at;
+use super::text::scan;
+use super::text::word_at;
+use super::text::words;
+
+// Where the lines of the latest settings begin, and the small ones themselves.
+pub(crate) struct Lent {
+    pub words: usize,
+    pub palette: usize,
+    pub video: usize,
+    pub counted: bool,
+    pub start: u32,
+    pub hclk: u32,
+}
+
+// Before any setting: all slices empty, since nothing stands past the text.
+pub(crate) fn nothing_lent(text: &[u8]) -> Lent {
+    let end = text.len();
+    Lent {
+        words: end,
+        palette: end,
+        video: end,
+        counted: false,
+        start: 0,
+        hclk: 0,
+    }
+}
+
+// The settings after a line; one that sets nothing leaves them.
+pub(crate) fn set(text: &[u8], at: usize, lent: Lent) -> Lent {
+    let mut l = lent;
+    let end = scan(text, at, Until::Space);
+    match key_at(text, at, b"words palette video counted start hclk") {
+        0 => {
+            l.words = end;
+            l
+        }
+        1 => {
+            l.palette = end;
+            l
+        }
+        2 => {
+            l.video = end;
+            l.counted = false;
+            l
+        }
+        3 => {
+            l.video = end;
+            l.counted = true;
+            l
+        }
+        4 => {
+            l.start = word_at(text, end, 0);
+            l
+        }
+        5 => {
+            l.hclk = word_at(text, end, 0);
+            l
+        }
+        _ => l,
+    }
+}
+
+pub(crate) fn lend_words(text: &[u8], lent: Lent, out: &mut [u32]) -> usize
+    ensures { λ r. ⌜ Counts r (now (out .exit)) ⌝ }
+{
+    words(text, lent.words, out)
+}
+
+pub(crate) fn lend_palette(text: &[u8], lent: Lent, out: &mut [u16]) -> usize
+    ensures { λ r. ⌜ Counts r (now (out .exit)) ⌝ }
+{
+    halves(text, lent.palette, out)
+}
+
+// The video words: listed, or counted up by count, first word and step.
+pub(crate) fn lend_video(text: &[u8], lent: Lent, out: &mut [u32]) -> usize
+    ensures { λ r. ⌜ Counts r (now (out .exit)) ⌝ }
+{
+    let at = lent.video;
+    if lent.counted {
+        count_up(
+            word_at(text, at, 1),
+            word_at(text, at, 2),
+            number_at(text, at, 0) as usize,
+            out,
+        )
+    } else {
+        words(text, at, out)
+    }
+}
