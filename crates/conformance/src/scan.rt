@@ -1,5 +1,4 @@
-// The calls of a scan. Its state and its picture are kept from line to line: a call gets the state that the one before returned,
-// after a refusal the old one, and a run the picture as the one before left it.
+// The calls of a scan. State and picture are kept from line to line: what one call leaves is what the next one is given.
 use super::case::Case;
 use super::case::Tally;
 use super::case::counted;
