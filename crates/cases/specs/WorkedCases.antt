@@ -12,7 +12,7 @@ use Rattle.laws.specs.Cases.{lowest, lower}
 use Rattle.laws.specs.Storing.{stores}
 use Rattle.registers.specs.Fields as Field
 use Rattle.registers.specs.Fields.{bppmode, pagewidth, reservedBit}
-use Rattle.registers.specs.Loading.{inOrder, load, tooShort, shortOfNine}
+use Rattle.registers.specs.Loading.{nineWords, load, tooShort, shortOfNine}
 use Rattle.registers.specs.declared.Words.{Words}
 use Rattle.fields.specs.Writing.{write, fieldTooWide}
 use Rattle.fields.specs.declared.Fields.{Fields}
@@ -97,10 +97,10 @@ zeros = replicate 256 0
 
 -- its picture, and a row of it, drawn to lent entries
 abbrev t1Picture : List ℕ → List ℕ
-t1Picture lent = leftBy (drawPicture (inOrder t1) 0x30000000 t1Memory zeros lent)
+t1Picture lent = leftBy (drawPicture (nineWords t1) 0x30000000 t1Memory zeros lent)
 
 abbrev t1Row : ℕ → List ℕ → List ℕ
-t1Row r lent = leftBy (drawRow (inOrder t1) 0x30000000 t1Memory zeros r lent)
+t1Row r lent = leftBy (drawRow (nineWords t1) 0x30000000 t1Memory zeros r lent)
 
 -- pixels of the word 0x01234567, by stored bits, BSWP, HWSWP and their numbers
 abbrev pixels : ℕ → Bool → Bool → List ℕ → List ℕ
@@ -186,17 +186,17 @@ rows =
     -- T7: 5551 of FFFF is FCFCFC, of 0001 is 040404
     ∷ row T7 (map (expanded false) (0xFFFF ∷ 0x0001 ∷ [])) (0xFCFCFC ∷ 0x040404 ∷ [])
     -- T8: a 240 by 320 panel with HSPW 9, HBPD 19, HFPD 9, VSPW 1, VBPD 1, VFPD 1, CLKVAL 4
-    ∷ row T8 (sizes (inOrder t9)) (240 ∷ 320 ∷ 9 ∷ 19 ∷ 9 ∷ 1 ∷ 1 ∷ 1 ∷ 4 ∷ [])
+    ∷ row T8 (sizes (nineWords t9)) (240 ∷ 320 ∷ 9 ∷ 19 ∷ 9 ∷ 1 ∷ 1 ∷ 1 ∷ 4 ∷ [])
     -- T8: 91,280 clocks, 912,800 ticks, and 109,553 mHz at 100 MHz
     ∷ row T8 (answered clocksAndTicks (counts t9)) (0 ∷ 91280 ∷ 912800 ∷ [])
     ∷ row T8 (answered alone (rate t9 100000000)) (0 ∷ 109553 ∷ [])
     -- T9: the same panel at 16 bits has words 0x479, 0x014FC041 and so on
-    ∷ row T9 (storedBits (bppmode (inOrder t9)) ∷ []) (16 ∷ [])
+    ∷ row T9 (storedBits (bppmode (nineWords t9)) ∷ []) (16 ∷ [])
     ∷ row T9 (answered nine (write t9Fields)) (0 ∷ t9)
     -- T10: with start 0x30000000, 38,400 memory words suffice and 38,399 give 8
-    ∷ row T10 (map (judgeMemory (inOrder t9) 0x30000000) (38399 ∷ 38400 ∷ [])) (8 ∷ 0 ∷ [])
+    ∷ row T10 (map (judgeMemory (nineWords t9) 0x30000000) (38399 ∷ 38400 ∷ [])) (8 ∷ 0 ∷ [])
     -- T11: 24 bits, width 1023 with PAGEWIDTH 2046 is accepted, width 1024 with it gives 5
-    ∷ row T11 (map (λ hozval. judge (inOrder (t11 hozval))) (1022 ∷ 1023 ∷ [])) (0 ∷ 5 ∷ [])
+    ∷ row T11 (map (λ hozval. judge (nineWords (t11 hozval))) (1022 ∷ 1023 ∷ [])) (0 ∷ 5 ∷ [])
     ∷ []
 
 -- ---- the claim

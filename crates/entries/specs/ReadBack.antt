@@ -11,7 +11,7 @@ use Rattle.laws.specs.Answers.{accepted, judged, one-accepts, Outcome, leaves, 
 use Rattle.laws.specs.Booleans.{or-false-right}
 use Rattle.laws.specs.Cases.{_when_, lowest, lowest-zero-none-holds, none-of-one}
 use Rattle.laws.specs.Storing.{stores, entry-stored, length-stores}
-use Rattle.registers.specs.Loading.{load, inOrder, wordEntries, tooShort, shortOfNine}
+use Rattle.registers.specs.Loading.{load, nineWords, wordEntries, tooShort, shortOfNine}
 use Rattle.registers.specs.declared.Words.{Words}
 use Rattle.fields.proofs.RoundTrip as RoundTrip
 use Rattle.fields.specs.Reading.{read}
@@ -26,8 +26,8 @@ module _ (w : Words) (out : List ℕ) (room : 9 ≤ length out) where
   unfolding putWords
   stored i h = rw zero-add at (entry-stored (λ j. getD (wordEntries w) j 0) 0 9 out i (omega arith) h)
 
-  in-order : inOrder (putWords w out) ≡ w
-  in-order =
+  words-again : nineWords (putWords w out) ≡ w
+  words-again =
       rw (stored 0 (omega arith), stored 1 (omega arith), stored 2 (omega arith), stored 3 (omega arith))
       (rw (stored 4 (omega arith), stored 5 (omega arith), stored 6 (omega arith))
       (rw (stored 7 (omega arith), stored 8 (omega arith)) refl))
@@ -38,7 +38,7 @@ module _ (w : Words) (out : List ℕ) (room : 9 ≤ length out) where
 
   pub stored-words-are-loaded : load (putWords w out) ≡ accepted w
   unfolding load tooShort shortOfNine
-  stored-words-are-loaded = sym (one-accepts 10 _ _ _ (le-ltb _ _ long-enough) (sym in-order))
+  stored-words-are-loaded = sym (one-accepts 10 _ _ _ (le-ltb _ _ long-enough) (sym words-again))
 
 -- fields that are read go to their entries
 module _ (fields out : List ℕ) (room : 34 ≤ length out) where
@@ -76,10 +76,10 @@ module _ (fields words left : List ℕ) (done : writeFields fields words ≡ lea
       ap load (sym (ap (λ (o : Outcome). o .left) (wrote .1)))
       ∙ stored-words-are-loaded (wordsOf (fieldsIn fields)) words room
 
-  pub fields-written-and-read : (out : List ℕ) → 34 ≤ length out
+  pub entries-written-and-read : (out : List ℕ) → 34 ≤ length out
       → readFields left out ≡ leaves 0 (stores (λ i. getD fields i 0) 0 34 out)
   unfolding readFields readFieldsOf
-  fields-written-and-read out h =
+  entries-written-and-read out h =
       sym
       (writes-on (load left) out (λ w. readFieldsOf w out) (wordsOf (fieldsIn fields)) _ (sym loaded)
       (writes-on (read (wordsOf (fieldsIn fields))) out (λ f. putFields f out) (fieldsIn fields) _

@@ -26,7 +26,7 @@ abbrev pub wordsWritten : WordsWritten → Answer Words
 wordsWritten (Wrote w) = accepted w
 wordsWritten (Refused n) = refused n
 
--- the values of each word's fields, from the highest bits down, as its layout has its free parts
+-- the values of each word's fields, from the highest bits down, as its layout has its free spans
 abbrev pub lcdcon1Values : Lcdcon1 → List ℕ
 lcdcon1Values f = f .clkval ∷ f .mmode ∷ f .pnrmode ∷ f .bppmode ∷ f .envid ∷ []
 

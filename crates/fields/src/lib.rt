@@ -5,7 +5,7 @@ ghost use Rattle.fields.specs.Writing.{wordsWritten, write};
 use registers::Words;
 
 mod packing;
-mod parts;
+mod unpacking;
 mod widths;
 
 pub struct Lcdcon1 {
@@ -101,14 +101,14 @@ pub fn read(w: Words) -> FieldsRead
     if w.reserved_bit() {
         return FieldsRead::Refused(1);
     }
-    FieldsRead::Read(parts::fields_of(w))
+    FieldsRead::Read(unpacking::fields_of(w))
 }
 
 // The nine words with these fields, read-only bits 0, or 12 where a field is too wide.
 pub fn write(f: Fields) -> WordsWritten
     ensures { λ r. ⌜ wordsWritten r ≡ write f ⌝ }
 {
-    if widths::too_wide(f) {
+    if widths::field_too_wide(f) {
         return WordsWritten::Refused(12);
     }
     WordsWritten::Wrote(packing::words_of(f))

@@ -106,7 +106,7 @@ fn tpal_too_wide(f: Tpal) -> bool
     wider(f.tpalen, 24, 24, wide)
 }
 
-pub(crate) fn too_wide(f: Fields) -> bool
+pub(crate) fn field_too_wide(f: Fields) -> bool
     ensures { λ r. ⌜ r ≡ fieldTooWide f ⌝ }
 {
     let wide = tpal_too_wide(f.tpal);

@@ -20,6 +20,6 @@ module _ (s : State) (l : Lent) where
   accepted-moves k t e = ap₂ leaving (maps _ _ _ _ e refl) (ap (orElse (λ k. k .next) s) e)
 
 -- the state that a list of calls leaves, stepped in place, is the state that the list leaves with that step more
-pub goes-on : (s : State) (cs : Calls) (l : Lent) → stepInPlace (final s cs) l .state ≡ final s (cs then aStep l)
+pub one-step-more : (s : State) (cs : Calls) (l : Lent) → stepInPlace (final s cs) l .state ≡ final s (cs then aStep l)
 unfolding stepInPlace final
-goes-on s cs l = refl
+one-step-more s cs l = refl

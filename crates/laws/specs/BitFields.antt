@@ -1,4 +1,4 @@
--- A word's layout (document 01, "The nine words"): a list of parts from bit 31 down, each free, read-only or reserved.
+-- A word's layout (document 01, "The nine words"): a list of spans from bit 31 down, each free, read-only or reserved.
 -- Fields, widths, reserved bits and packing follow from the list alone; RoundTrip has their laws. Assumes nothing.
 use mathlib.Core.Bool.{Bool, false, _&&_, _||_}
 use mathlib.Core.List.{List, [], _∷_}
@@ -7,34 +7,34 @@ use lib.Dec.{ltb, leb, eqb}
 use lib.ListN.{length}
 pub mod RoundTrip
 
--- who may write a part: the program, only the chip, nobody
+-- who may write a span: the program, only the chip, nobody
 pub data Access : Type 0 where
   Free ReadOnly Reserved : Access
 
--- a part of a word, by its highest and its lowest bit as the paper writes them
-pub record Part : Type 0 where
+-- a span of a word, by its highest and its lowest bit as the paper writes them
+pub record Span : Type 0 where
   pub access : Access
   pub high : ℕ
   pub low : ℕ
 
-abbrev pub free : ℕ → ℕ → Part
+abbrev pub free : ℕ → ℕ → Span
 free high low = record { access = Free; high = high; low = low }
 
-abbrev pub readOnly : ℕ → ℕ → Part
+abbrev pub readOnly : ℕ → ℕ → Span
 readOnly high low = record { access = ReadOnly; high = high; low = low }
 
-abbrev pub reserved : ℕ → ℕ → Part
+abbrev pub reserved : ℕ → ℕ → Span
 reserved high low = record { access = Reserved; high = high; low = low }
 
-abbrev pub width : Part → ℕ
-width p = suc (p .high) - p .low
+abbrev pub spanWidth : Span → ℕ
+spanWidth p = suc (p .high) - p .low
 
 -- "Each field is cut from its word by shift and mask."
-abbrev pub field : Part → ℕ → ℕ
-field p w = w / 2 ^ p .low % 2 ^ width p
+abbrev pub field : Span → ℕ → ℕ
+field p w = w / 2 ^ p .low % 2 ^ spanWidth p
 
--- the parts cover each of the bits below n once, from the highest down
-abbrev pub tiles : ℕ → List Part → Bool
+-- the spans cover each of the bits below n once, from the highest down
+abbrev pub tiles : ℕ → List Span → Bool
 tiles n [] = eqb n 0
 tiles n (p ∷ ps) = eqb n (suc (p .high)) && leb (p .low) (p .high) && tiles (p .low) ps
 
@@ -44,7 +44,7 @@ ifReserved ReadOnly b = false
 ifReserved Reserved b = b
 
 -- a reserved bit of the word is set
-abbrev pub reservedSet : List Part → ℕ → Bool
+abbrev pub reservedSet : List Span → ℕ → Bool
 reservedSet [] w = false
 reservedSet (p ∷ ps) w = reservedSet ps w || ifReserved (p .access) (ltb 0 (field p w))
 
@@ -53,43 +53,43 @@ listed Free v vs = v ∷ vs
 listed ReadOnly v vs = vs
 listed Reserved v vs = vs
 
--- the values of a word's free parts, from the highest down: "read-only bits are ignored on reading"
-abbrev pub values : List Part → ℕ → List ℕ
+-- the values of a word's free spans, from the highest down: "read-only bits are ignored on reading"
+abbrev pub values : List Span → ℕ → List ℕ
 values [] w = []
 values (p ∷ ps) w = listed (p .access) (field p w) (values ps w)
 
--- how many parts are free
-abbrev pub freeParts : List Part → ℕ
-freeParts ps = length (values ps 0)
+-- how many spans are free
+abbrev pub freeSpans : List Span → ℕ
+freeSpans ps = length (values ps 0)
 
--- the value of the next part, given the values of the free parts: "and written as 0"
+-- the value of the next span, given the values of the free spans: "and written as 0"
 abbrev next : Access → List ℕ → ℕ
 next Free [] = 0
 next Free (v ∷ vs) = v
 next ReadOnly vs = 0
 next Reserved vs = 0
 
--- the values that are left for the parts below it
+-- the values that are left for the spans below it
 abbrev rest : Access → List ℕ → List ℕ
 rest Free [] = []
 rest Free (v ∷ vs) = vs
 rest ReadOnly vs = vs
 rest Reserved vs = vs
 
--- the word whose free parts have these values
-abbrev pub pack : List Part → List ℕ → ℕ
+-- the word whose free spans have these values
+abbrev pub pack : List Span → List ℕ → ℕ
 pack [] vs = 0
 pack (p ∷ ps) vs = next (p .access) vs * 2 ^ p .low + pack ps (rest (p .access) vs)
 
--- some value is too wide for its part
-abbrev pub tooWide : List Part → List ℕ → Bool
+-- some value is too wide for its span
+abbrev pub tooWide : List Span → List ℕ → Bool
 tooWide [] vs = false
-tooWide (p ∷ ps) vs = leb (2 ^ width p) (next (p .access) vs) || tooWide ps (rest (p .access) vs)
+tooWide (p ∷ ps) vs = leb (2 ^ spanWidth p) (next (p .access) vs) || tooWide ps (rest (p .access) vs)
 
--- each value fits its part
-abbrev pub Fit : List Part → List ℕ → Type 0
+-- each value fits its span
+abbrev pub Fit : List Span → List ℕ → Type 0
 Fit [] vs = Unit
-Fit (p ∷ ps) vs = (next (p .access) vs < 2 ^ width p) × Fit ps (rest (p .access) vs)
+Fit (p ∷ ps) vs = (next (p .access) vs < 2 ^ spanWidth p) × Fit ps (rest (p .access) vs)
 
 abbrev ifReadOnly : Access → ℕ → ℕ
 ifReadOnly Free v = 0
@@ -97,6 +97,6 @@ ifReadOnly ReadOnly v = v
 ifReadOnly Reserved v = 0
 
 -- what the read-only bits of a word make of its number
-abbrev pub readOnlyBits : List Part → ℕ → ℕ
+abbrev pub readOnlyBits : List Span → ℕ → ℕ
 readOnlyBits [] w = 0
 readOnlyBits (p ∷ ps) w = ifReadOnly (p .access) (field p w) * 2 ^ p .low + readOnlyBits ps w

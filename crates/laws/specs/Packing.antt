@@ -67,8 +67,8 @@ pub record Packed (a v high : ℕ) : Type 0 where
 pub moved-from-top : (v width down : ℕ) → v < 2 ^ (width + down) → Packed (v / 2 ^ down) (v / 2 ^ down % 2 ^ width) width
 moved-from-top v width down h = record { is = sym (shr-mod width down h); below = field-lt (v / 2 ^ down) width }
 
-pub first : {b f width low : ℕ} → Field b f width low → Packed b (f * 2 ^ low) (width + low)
-first {width} {low} p = record { is = p .is; below = shl-lt width low (p .fits) }
+pub one-field : {b f width low : ℕ} → Field b f width low → Packed b (f * 2 ^ low) (width + low)
+one-field {width} {low} p = record { is = p .is; below = shl-lt width low (p .fits) }
 
 -- a field over those below it
 pub over : {a v high b f width low : ℕ} → T (leb high low) → Packed a v high → Field b f width low

@@ -102,8 +102,8 @@ module _ (g : ℕ → ℕ) (at : ℕ) (d out : List ℕ) (done : ℕ) (s : Store
         size = ap length e ∙ length-stores h j n out ∙ s .size;
       }
 
-  pub counted : (n : ℕ) → done ≡ n → Stored g at d out n
-  counted n e = record { is = s .is ∙ ap (λ (k : ℕ). stores g at k d) e; size = s .size }
+  pub so-many-stored : (n : ℕ) → done ≡ n → Stored g at d out n
+  so-many-stored n e = record { is = s .is ∙ ap (λ (k : ℕ). stores g at k d) e; size = s .size }
 
   -- the loop ends when all are stored
   pub all-stored : (n : ℕ) → done ≡ n → out ≡ stores g at n d

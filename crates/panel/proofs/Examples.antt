@@ -11,7 +11,7 @@ use lib.Dec.{T, eqb}
 use Rattle.laws.specs.Answers.{accepted, judged, andThen, mapped}
 use Rattle.laws.specs.Cases.{lowest, lower, first, lowest-of-ascending-is-first}
 use Rattle.registers.specs.Fields.{bppmode, pagewidth, reservedBit}
-use Rattle.registers.specs.Loading.{load, tooShort, shortOfNine, inOrder}
+use Rattle.registers.specs.Loading.{load, tooShort, shortOfNine, nineWords}
 use Rattle.registers.specs.declared.Words.{Words}
 use Rattle.panel.specs.Counts.{counts, rate, frameTicks}
 use Rattle.panel.specs.Geometry.{width, storedBits, outsideModes, rowOffset}
@@ -107,7 +107,7 @@ verdicts =
 
 abbrev pub agree : List Verdict → Bool
 agree [] = true
-agree (v ∷ vs) = eqb (judge (inOrder (v .words))) (v .number) && agree vs
+agree (v ∷ vs) = eqb (judge (nineWords (v .words))) (v .number) && agree vs
 
 pub verdicts-agree : T (agree verdicts)
 unfolding judge lowest lower reservedBit notTft noSuchMode outsideModes swapsIllegal storedBits rowSizeWrong endDiffers pastBank rowOffset

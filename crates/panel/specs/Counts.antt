@@ -27,8 +27,8 @@ unfoldable pub frameTicks : Words → ℕ
 frameTicks w = 2 * (clkval w + 1) * frameClocks (timing w)
 
 -- "Rate in millihertz: HCLK in Hz × 1000 over the ticks, rounded down."
-abbrev pub frameRate : Words → ℕ → ℕ
-frameRate w hclk = hclk * 1000 / frameTicks w
+abbrev pub frameMillihertz : Words → ℕ → ℕ
+frameMillihertz w hclk = hclk * 1000 / frameTicks w
 
 -- a frame's clocks and ticks
 abbrev pub countsOf : Words → Counts
@@ -39,4 +39,4 @@ unfoldable pub counts : List ℕ → Answer Counts
 counts s = mapped countsOf (accept s)
 
 unfoldable pub rate : List ℕ → ℕ → Answer ℕ
-rate s hclk = mapped (λ w. frameRate w hclk) (accept s)
+rate s hclk = mapped (λ w. frameMillihertz w hclk) (accept s)

@@ -2,7 +2,7 @@
 ghost use mathlib.Core.Path.{_≡_};
 ghost use Prim.Native.Nat.{_+_};
 ghost use Rattle.registers.specs.Fields.{vspw, vbpd, vfpd, hspw, hbpd, hfpd};
-ghost use Rattle.panel.specs.Counts.{frameTicks, frameRate};
+ghost use Rattle.panel.specs.Counts.{frameTicks, frameMillihertz};
 ghost use Rattle.panel.specs.Timing.{timing, lineClocks, frameLines, frameClocks};
 use super::geometry::height;
 use super::geometry::width;
@@ -52,7 +52,7 @@ pub fn frame_ticks(w: Words) -> u64
 
 // The frame rate in millihertz: one exact division, rounded down once.
 pub fn frame_millihertz(w: Words, hclk: u32) -> u64
-    ensures { λ r. ⌜ r ≡ frameRate w hclk ⌝ }
+    ensures { λ r. ⌜ r ≡ frameMillihertz w hclk ⌝ }
 {
     hclk as u64 * 1000 / frame_ticks(w)
 }

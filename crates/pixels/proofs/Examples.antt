@@ -95,13 +95,13 @@ examples-agree = tt
 -- ---- what the words say
 
 -- T9: BPPMODE 12, FRM565, HWSWP
-pub t9-format : format (Loading.inOrder (0x479 ∷ 0x014FC041 ∷ 0x0098EF09 ∷ 0x9 ∷ 0xB09 ∷ 0x18000000 ∷ 0x12C00 ∷ 0xF0 ∷ 0 ∷ []))
+pub t9-format : format (Loading.nineWords (0x479 ∷ 0x014FC041 ∷ 0x0098EF09 ∷ 0x9 ∷ 0xB09 ∷ 0x18000000 ∷ 0x12C00 ∷ 0xF0 ∷ 0 ∷ []))
     ≡ record { bits = 16; bswp = false; hwswp = true; bpp24bl = false; frm565 = true; tpalen = false; tpalval = 0 }
 unfolding format storedBits outsideModes
 t9-format = refl
 
 -- T1's words with BPP24BL, BSWP and a temporary palette: what T9 has clear is set, and the other way round
-pub t1-format-changed : format (Loading.inOrder (0x7B ∷ 0x4000 ∷ 0 ∷ 0 ∷ 0x1002 ∷ 0x18000000 ∷ 4 ∷ 2 ∷ 0x1123456 ∷ []))
+pub t1-format-changed : format (Loading.nineWords (0x7B ∷ 0x4000 ∷ 0 ∷ 0 ∷ 0x1002 ∷ 0x18000000 ∷ 4 ∷ 2 ∷ 0x1123456 ∷ []))
     ≡ record { bits = 32; bswp = true; hwswp = false; bpp24bl = true; frm565 = false; tpalen = true; tpalval = 0x123456 }
 unfolding format storedBits outsideModes
 t1-format-changed = refl

@@ -7,7 +7,7 @@ use Prim.Native.Nat.{ℕ, _-_}
 use lib.Dec.{T, eqb}
 use lib.ListN.{set, replicate}
 use Rattle.registers.specs.Fields as Fields
-use Rattle.registers.specs.Loading.{inOrder}
+use Rattle.registers.specs.Loading.{nineWords}
 use Rattle.registers.specs.declared.Words.{Words}
 
 pub record Mask : Type 0 where
@@ -63,7 +63,7 @@ masks =
 
 -- the nine words with one of them set, the others 0
 abbrev only : ℕ → ℕ → Words
-only word x = inOrder (set (replicate 9 0) word x)
+only word x = nineWords (set (replicate 9 0) word x)
 
 abbrev pub agree : List Mask → Bool
 agree [] = true

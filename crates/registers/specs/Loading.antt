@@ -17,8 +17,8 @@ loaded (Nine w) = accepted w
 loaded (Refused n) = refused n
 
 -- "In this order: LCDCON1 to LCDCON5, LCDSADDR1 to LCDSADDR3, TPAL."
-abbrev pub inOrder : List ℕ → Words
-inOrder s =
+abbrev pub nineWords : List ℕ → Words
+nineWords s =
     record {
       lcdcon1 = getD s 0 0;
       lcdcon2 = getD s 1 0;
@@ -55,4 +55,4 @@ shortOfNine s = tooShort (length s) 9
 
 -- what the slice gives
 unfoldable pub load : List ℕ → Answer Words
-load s = judged (lowest (10 when shortOfNine s ∷ [])) (inOrder s)
+load s = judged (lowest (10 when shortOfNine s ∷ [])) (nineWords s)

@@ -18,7 +18,7 @@ use Rattle.pixels.specs.Format.{format}
 use Rattle.pixels.specs.Order as Order
 use Rattle.pixels.specs.Pixel.{shown}
 use Rattle.registers.specs.Fields.{reservedBit}
-use Rattle.registers.specs.Loading.{inOrder, tooShort}
+use Rattle.registers.specs.Loading.{nineWords, tooShort}
 use Rattle.signals.specs.Clock.{level, dataWord, inSync, showsPixel, clockOf, clockAt}
 use Rattle.signals.specs.Parts.{partAt, linePart, clockPart}
 use Rattle.signals.specs.Pixel.{inRow, spotOf, spotAt, pixelClock}
@@ -38,7 +38,7 @@ abbrev t1 : ℕ → List ℕ
 t1 lcdcon5 = 0x7B ∷ 0x4000 ∷ 0 ∷ 0 ∷ lcdcon5 ∷ 0x18000000 ∷ 4 ∷ 2 ∷ 0 ∷ []
 
 abbrev began : ℕ → State
-began lcdcon5 = begun (inOrder (t1 lcdcon5)) 0x30000000
+began lcdcon5 = begun (nineWords (t1 lcdcon5)) 0x30000000
 
 abbrev lent : Lent
 lent = record { memory = 0x00112233 ∷ 0x00AABBCC ∷ []; palette = replicate 256 0 }
@@ -129,12 +129,12 @@ abbrev t8 : List ℕ
 t8 = 0x479 ∷ 0x014FC041 ∷ 0x0098EF09 ∷ 0x9 ∷ 0xB09 ∷ 0x18000000 ∷ 0x12C00 ∷ 0xF0 ∷ 0 ∷ []
 
 pub record T8Clocks : Type 0 where
-  pub first : pixelClock (timing (inOrder t8)) 0 0 ≡ 1150
-  pub last : pixelClock (timing (inOrder t8)) 319 239 ≡ 90709
-  pub shows-first : spotAt (timing (inOrder t8)) 1150 ≡ Pixel 0 0
-  pub before-first : spotAt (timing (inOrder t8)) 1149 ≡ Blank
-  pub shows-last : spotAt (timing (inOrder t8)) 90709 ≡ Pixel 319 239
-  pub after-last : spotAt (timing (inOrder t8)) 90710 ≡ Blank
+  pub first : pixelClock (timing (nineWords t8)) 0 0 ≡ 1150
+  pub last : pixelClock (timing (nineWords t8)) 319 239 ≡ 90709
+  pub shows-first : spotAt (timing (nineWords t8)) 1150 ≡ Pixel 0 0
+  pub before-first : spotAt (timing (nineWords t8)) 1149 ≡ Blank
+  pub shows-last : spotAt (timing (nineWords t8)) 90709 ≡ Pixel 319 239
+  pub after-last : spotAt (timing (nineWords t8)) 90710 ≡ Blank
 
 pub t8-clocks : T8Clocks
 unfolding pixelClock lineClocks partAt linePart clockPart inRow spotOf spotAt

@@ -6,7 +6,7 @@ use lib.ListN.{length, getD, set}
 use Rattle.laws.specs.Answers.{Answer, accepted, refused, judged, Outcome, leaves, outcome, outcomeOn}
 use Rattle.laws.specs.Cases.{_when_, lowest}
 use Rattle.laws.specs.Storing.{stores}
-use Rattle.registers.specs.Loading.{inOrder, wordEntries, tooShort}
+use Rattle.registers.specs.Loading.{nineWords, wordEntries, tooShort}
 use Rattle.signals.specs.declared.clock.Clock.{Clock}
 use Rattle.scanout.specs.Calls.{Lent, start, step, run, change}
 use Rattle.scanout.specs.Core.{lending}
@@ -19,7 +19,7 @@ use Rattle.scanout.specs.declared.state.Viewport.{Viewport}
 abbrev pub stateOf : List ℕ → State
 stateOf scan =
     record {
-      words = inOrder scan;
+      words = nineWords scan;
       «window_start» = getD scan 9 0;
       pending = record { lcdsaddr1 = getD scan 10 0; lcdsaddr2 = getD scan 11 0 };
       position = getD scan 12 0;

@@ -5,7 +5,7 @@ use lib.ListN.{length, getD}
 use Rattle.laws.specs.Answers.{Outcome, outcome, outcomeOn}
 use Rattle.laws.specs.Cases.{_when_, lowest}
 use Rattle.laws.specs.Storing.{stores}
-use Rattle.panel.specs.Counts.{frameTicks, frameRate}
+use Rattle.panel.specs.Counts.{frameTicks, frameMillihertz}
 use Rattle.panel.specs.Refusals.{accept}
 use Rattle.panel.specs.Timing.{timing, frameClocks}
 use Rattle.registers.specs.Loading.{tooShort}
@@ -13,7 +13,7 @@ use Rattle.registers.specs.declared.Words.{Words}
 
 -- clocks, HCLK ticks and millihertz, in this order
 abbrev pub numbers : Words → ℕ → List ℕ
-numbers w hclk = frameClocks (timing w) ∷ frameTicks w ∷ frameRate w hclk ∷ []
+numbers w hclk = frameClocks (timing w) ∷ frameTicks w ∷ frameMillihertz w hclk ∷ []
 
 -- 10: fewer than three entries for the counts
 unfoldable pub putCounts : Words → ℕ → List ℕ → Outcome

@@ -12,12 +12,12 @@ use lib.Dec.{T, ltb, leb, eqb, leb→le, eqb→eq}
 use lib.ListN.{length}
 use lib.Pow.{pow-pos, pow-add, high, low, mod-pow-add}
 use Rattle.laws.specs.Booleans.{and-left, and-right, or-false-left, or-false-right, or-false}
-use Rattle.laws.specs.BitFields.{Access, Free, ReadOnly, Reserved, Part, width, field, tiles, reservedSet, values, freeParts}
+use Rattle.laws.specs.BitFields.{Access, Free, ReadOnly, Reserved, Span, spanWidth, field, tiles, reservedSet, values, freeSpans}
 use Rattle.laws.specs.BitFields.{pack, tooWide, Fit, readOnlyBits, ifReserved, ifReadOnly, listed, next, rest}
 
--- ---- a part of a layout that tiles
+-- ---- a span of a layout that tiles
 
-module _ (n : ℕ) (p : Part) (ps : List Part) (t : T (tiles n (p ∷ ps))) where
+module _ (n : ℕ) (p : Span) (ps : List Span) (t : T (tiles n (p ∷ ps))) where
   tests : T (eqb n (suc (p .high)) && leb (p .low) (p .high))
   tests = and-left (eqb n (suc (p .high)) && leb (p .low) (p .high)) (tiles (p .low) ps) t
 
@@ -27,54 +27,54 @@ module _ (n : ℕ) (p : Part) (ps : List Part) (t : T (tiles n (p ∷ ps))) wher
   ordered : p .low ≤ p .high
   ordered = leb→le (p .low) (p .high) (and-right (eqb n (suc (p .high))) (leb (p .low) (p .high)) tests)
 
-  -- the part reaches up to bit n
-  reaches : n ≡ width p + p .low
+  -- the span reaches up to bit n
+  reaches : n ≡ spanWidth p + p .low
   reaches = omega (arith, top, ordered)
 
-  -- the other parts tile the bits below it
+  -- the other spans tile the bits below it
   below : T (tiles (p .low) ps)
   below = and-right (eqb n (suc (p .high)) && leb (p .low) (p .high)) (tiles (p .low) ps) t
 
 -- ---- values that fit
 
 -- no value is too wide: each fits
-pub all-fit : (ps : List Part) (vs : List ℕ) → tooWide ps vs ≡ false → Fit ps vs
+pub all-fit : (ps : List Span) (vs : List ℕ) → tooWide ps vs ≡ false → Fit ps vs
 all-fit [] vs f = tt
-all-fit (p ∷ ps) vs f = (leb-false (2 ^ width p) (next (p .access) vs) here, all-fit ps (rest (p .access) vs) others)
+all-fit (p ∷ ps) vs f = (leb-false (2 ^ spanWidth p) (next (p .access) vs) here, all-fit ps (rest (p .access) vs) others)
   where
-    here : leb (2 ^ width p) (next (p .access) vs) ≡ false
-    here = or-false-left (leb (2 ^ width p) (next (p .access) vs)) (tooWide ps (rest (p .access) vs)) f
+    here : leb (2 ^ spanWidth p) (next (p .access) vs) ≡ false
+    here = or-false-left (leb (2 ^ spanWidth p) (next (p .access) vs)) (tooWide ps (rest (p .access) vs)) f
 
     others : tooWide ps (rest (p .access) vs) ≡ false
-    others = or-false-right (leb (2 ^ width p) (next (p .access) vs)) (tooWide ps (rest (p .access) vs)) f
+    others = or-false-right (leb (2 ^ spanWidth p) (next (p .access) vs)) (tooWide ps (rest (p .access) vs)) f
 
-pack-lt : (n : ℕ) (ps : List Part) (vs : List ℕ) → T (tiles n ps) → Fit ps vs → pack ps vs < 2 ^ n
+pack-lt : (n : ℕ) (ps : List Span) (vs : List ℕ) → T (tiles n ps) → Fit ps vs → pack ps vs < 2 ^ n
 pack-lt n [] vs t f = pow-pos n
 pack-lt n (p ∷ ps) vs t f =
-    rw (reaches n p ps t, pow-add 2 (width p) (p .low))
+    rw (reaches n p ps t, pow-add 2 (spanWidth p) (p .low))
     (digits-lt (f .0) (pack-lt (p .low) ps (rest (p .access) vs) (below n p ps t) (f .1)))
 
 -- ---- a packed word, whatever number q stands in the bits above n
 
-module _ (q n : ℕ) (p : Part) (ps : List Part) (vs : List ℕ) (t : T (tiles n (p ∷ ps))) (f : Fit (p ∷ ps) vs) where
+module _ (q n : ℕ) (p : Span) (ps : List Span) (vs : List ℕ) (t : T (tiles n (p ∷ ps))) (f : Fit (p ∷ ps) vs) where
   above : ℕ
-  above = q * 2 ^ width p + next (p .access) vs
+  above = q * 2 ^ spanWidth p + next (p .access) vs
 
-  -- the word is what stands above the part, with the part's value, and what is packed below it
+  -- the word is what stands above the span, with the span's value, and what is packed below it
   regrouped : q * 2 ^ n + pack (p ∷ ps) vs ≡ above * 2 ^ p .low + pack ps (rest (p .access) vs)
   unfolding above
-  regrouped = rw (reaches n p ps t, pow-add 2 (width p) (p .low), add-mul, mul-assoc) (omega arith)
+  regrouped = rw (reaches n p ps t, pow-add 2 (spanWidth p) (p .low), add-mul, mul-assoc) (omega arith)
 
-  -- the part's value stands in its field
+  -- the span's value stands in its field
   field-packed : field p (q * 2 ^ n + pack (p ∷ ps) vs) ≡ next (p .access) vs
   unfolding above
   field-packed =
       ap (field p) regrouped
-      ∙ ap (λ (x : ℕ). x % 2 ^ width p)
+      ∙ ap (λ (x : ℕ). x % 2 ^ spanWidth p)
       (high above (p .low) (pack-lt (p .low) ps (rest (p .access) vs) (below n p ps t) (f .1)))
-      ∙ low q (width p) (f .0)
+      ∙ low q (spanWidth p) (f .0)
 
--- as many values as free parts: each free part takes one
+-- as many values as free spans: each free span takes one
 listed-next : (a : Access) (vs : List ℕ) (v : ℕ) (xs : List ℕ) → length vs ≡ length (listed a v xs)
     → listed a (next a vs) (rest a vs) ≡ vs
 listed-next Free [] v xs l = absurd (omega arith)
@@ -93,8 +93,8 @@ no-values : (vs : List ℕ) → length vs ≡ 0 → [] ≡ vs
 no-values [] l = refl
 no-values (v ∷ vs) l = absurd (omega arith)
 
-values-packed : (q n : ℕ) (ps : List Part) (vs : List ℕ) → T (tiles n ps) → Fit ps vs
-    → length vs ≡ freeParts ps → values ps (q * 2 ^ n + pack ps vs) ≡ vs
+values-packed : (q n : ℕ) (ps : List Span) (vs : List ℕ) → T (tiles n ps) → Fit ps vs
+    → length vs ≡ freeSpans ps → values ps (q * 2 ^ n + pack ps vs) ≡ vs
 values-packed q n [] vs t f l = no-values vs l
 values-packed q n (p ∷ ps) vs t f l =
     ap₂ (listed (p .access)) (field-packed q n p ps vs t f)
@@ -108,7 +108,7 @@ reserved-next Free vs = refl
 reserved-next ReadOnly vs = refl
 reserved-next Reserved vs = refl
 
-reserved-packed : (q n : ℕ) (ps : List Part) (vs : List ℕ) → T (tiles n ps) → Fit ps vs
+reserved-packed : (q n : ℕ) (ps : List Span) (vs : List ℕ) → T (tiles n ps) → Fit ps vs
     → reservedSet ps (q * 2 ^ n + pack ps vs) ≡ false
 reserved-packed q n [] vs t f = refl
 reserved-packed q n (p ∷ ps) vs t f =
@@ -130,25 +130,25 @@ rest-listed ReadOnly v vs = refl
 rest-listed Reserved v vs = refl
 
 -- a word's own values are not too wide
-pub values-narrow : (ps : List Part) (w : ℕ) → tooWide ps (values ps w) ≡ false
+pub values-narrow : (ps : List Span) (w : ℕ) → tooWide ps (values ps w) ≡ false
 values-narrow [] w = refl
 values-narrow (p ∷ ps) w =
     or-false
-    (next-listed (p .access) (width p) (field p w) (values ps w) (mod-lt (w / 2 ^ p .low) (pow-pos (width p))))
+    (next-listed (p .access) (spanWidth p) (field p w) (values ps w) (mod-lt (w / 2 ^ p .low) (pow-pos (spanWidth p))))
     (ap (tooWide ps) (rest-listed (p .access) (field p w) (values ps w)) ∙ values-narrow ps w)
 
--- a part is free, read-only, or reserved and then 0
+-- a span is free, read-only, or reserved and then 0
 split-by-access : (a : Access) (v m : ℕ) (vs : List ℕ) → ifReserved a (ltb 0 v) ≡ false
     → next a (listed a v vs) * m + ifReadOnly a v * m ≡ v * m
 split-by-access Free v m vs r = omega arith
 split-by-access ReadOnly v m vs r = omega arith
 split-by-access Reserved v m vs r = omega (arith, ap (λ (x : ℕ). x * m) (le-zero (ltb-false 0 v r)))
 
-packed-values : (n : ℕ) (ps : List Part) (w : ℕ) → T (tiles n ps) → reservedSet ps w ≡ false
+packed-values : (n : ℕ) (ps : List Span) (w : ℕ) → T (tiles n ps) → reservedSet ps w ≡ false
     → pack ps (values ps w) + readOnlyBits ps w ≡ w % 2 ^ n
 packed-values n [] w t r = rw (eqb→eq n 0 t) (omega arith)
 packed-values n (p ∷ ps) w t r =
-    rw (reaches n p ps t, mod-pow-add w (width p) (p .low), rest-listed (p .access) (field p w) (values ps w))
+    rw (reaches n p ps t, mod-pow-add w (spanWidth p) (p .low), rest-listed (p .access) (field p w) (values ps w))
     (omega (
       arith,
       split-by-access (p .access) (field p w) (2 ^ p .low) (values ps w) here,
@@ -163,12 +163,12 @@ packed-values n (p ∷ ps) w t r =
 
 -- ---- the two round trips
 
-module _ (n : ℕ) (ps : List Part) (vs : List ℕ) (t : T (tiles n ps)) (f : Fit ps vs) where
+module _ (n : ℕ) (ps : List Span) (vs : List ℕ) (t : T (tiles n ps)) (f : Fit ps vs) where
   alone : 0 * 2 ^ n + pack ps vs ≡ pack ps vs
   alone = omega arith
 
   -- values that fit, packed, are read back the same
-  pub packed-and-read : length vs ≡ freeParts ps → values ps (pack ps vs) ≡ vs
+  pub packed-and-read : length vs ≡ freeSpans ps → values ps (pack ps vs) ≡ vs
   packed-and-read l = ap (values ps) (sym alone) ∙ values-packed 0 n ps vs t f l
 
   -- and no reserved bit is set
@@ -176,6 +176,6 @@ module _ (n : ℕ) (ps : List Part) (vs : List ℕ) (t : T (tiles n ps)) (f : Fi
   packed-is-clear = ap (reservedSet ps) (sym alone) ∙ reserved-packed 0 n ps vs t f
 
 -- a word with no reserved bit set, read and packed, is the same, read-only bits apart
-pub read-and-packed : (n : ℕ) (ps : List Part) (w : ℕ) → T (tiles n ps) → w < 2 ^ n → reservedSet ps w ≡ false
+pub read-and-packed : (n : ℕ) (ps : List Span) (w : ℕ) → T (tiles n ps) → w < 2 ^ n → reservedSet ps w ≡ false
     → pack ps (values ps w) ≡ w - readOnlyBits ps w
 read-and-packed n ps w t h r = omega (arith, packed-values n ps w t r, mod-eq-of-lt h)

@@ -4,7 +4,7 @@ use Prim.Native.Nat.{ℕ, _+_, _*_, _-_, _≤_}
 use native.Mathlib.Omega.{arith}
 use borrow.Author.Needs.{needs}
 use lib.ListN.{length}
-use Rattle.laws.specs.Storing.{Stored, none-stored, one-more, some-more, counted, all-stored, left-length}
+use Rattle.laws.specs.Storing.{Stored, none-stored, one-more, some-more, so-many-stored, all-stored, left-length}
 use Rattle.bench.specs.Output.{rowText}
 use Rattle.bench.proofs.Lines.{digit-in-line, parting-in-line}
 use Rattle.bench.proofs.output.spell_row.Statement.{statement}
@@ -28,7 +28,7 @@ loop-again c =
     some-more _ _ _ _ _ (loop .loop .inv .1) _ _ 6 _ (c .before .before .before .spell-colour .ensures) (omega arith)
     (λ k h. sym (digit-in-line row i k h)) in
     let behind = one-more _ _ _ _ _ digits (7 * i + 6) _ (omega arith) (c .parting .ensures ∙ sym (parting-in-line row i)) in
-    (omega arith, counted _ _ _ _ _ behind _ (omega arith))
+    (omega arith, so-many-stored _ _ _ _ _ behind _ (omega arith))
 
 pub spell-row-spec : {M : Type 1} → statement M
 spell-row-spec =

@@ -5,7 +5,7 @@ use Prim.Native.Nat.{_*_, _≤_, _-_}
 use native.Mathlib.Omega.{arith}
 use borrow.Author.Needs.{needs}
 use lib.ListN.{length-set}
-use Rattle.laws.specs.Storing.{Stored, none-stored, one-more, counted, all-stored}
+use Rattle.laws.specs.Storing.{Stored, none-stored, one-more, so-many-stored, all-stored}
 use Rattle.pixels.specs.Colours.{expanded}
 use Rattle.drawing.specs.Colour.{storedPixel}
 use Rattle.drawing.proofs.Pixels.{first-of-two, second-of-two}
@@ -61,7 +61,7 @@ loop-again c =
     ∙ ap (expanded (start .args .frm565))
     (rw (c .before .half2 .ensures, halves .ensures)
     (second-of-two (start .args .hwswp) video (start .args .from) (loop .loop .i)))) in
-    (omega arith, counted _ _ _ _ _ second _ (omega arith))
+    (omega arith, so-many-stored _ _ _ _ _ second _ (omega arith))
 
 pub expand-words-spec : {M : Type 1} → statement M
 expand-words-spec =

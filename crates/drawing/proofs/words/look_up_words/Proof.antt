@@ -6,7 +6,7 @@ use native.Mathlib.Nat.{add-mul, div-le-self, mul-le-mul-right}
 use native.Mathlib.Omega.{arith}
 use borrow.Author.Needs.{needs}
 use lib.ListN.{length, getD}
-use Rattle.laws.specs.Storing.{Stored, none-stored, some-more, counted, all-stored}
+use Rattle.laws.specs.Storing.{Stored, none-stored, some-more, so-many-stored, all-stored}
 use Rattle.pixels.specs.Order.{pixelBits}
 use Rattle.drawing.specs.Colour.{storedPixel}
 use Rattle.drawing.proofs.Pixels.{word-pixel}
@@ -64,7 +64,7 @@ loop-again c =
     let i = loop .loop .i in
     let s = start .args .s in (
       omega arith,
-      counted _ _ _ _ _
+      so-many-stored _ _ _ _ _
           (some-more _ _ _ _ _ (loop .loop .inv .1) _ _ (32 / s) _ (c .before .before .look-up-word .ensures) refl
           (λ k h.
           ap (λ (v : ℕ). getD (start .args .table .now) v 0)
@@ -81,7 +81,7 @@ look-up-words-spec =
     μ-loop
     (λ c. search needs)
     cast-per-word
-    (λ c. (omega arith, counted _ _ _ _ _ (none-stored _ _ _) _ (omega arith)))
+    (λ c. (omega arith, so-many-stored _ _ _ _ _ (none-stored _ _ _) _ (omega arith)))
     (λ c. omega arith)
     (λ c. search needs)
     (λ c. omega arith)

@@ -9,7 +9,7 @@ use Rattle.laws.specs.Shifts.{bits-beyond}
 use Rattle.fields.proofs.widths.wider.Statement.{statement}
 use Rattle.fields.proofs.widths.wider.Tie as tie
 
--- the bits past the part's width hold a 1 where the value does not fit
+-- the bits past the span's width hold a 1 where the value does not fit
 beyond : (v high low : ℕ) → low ≤ high → ltb 0 (v / 2 ^ (high - low + 1)) ≡ leb (2 ^ (suc high - low)) v
 beyond v high low h = bits-beyond v (high - low + 1) ∙ ap (λ (k : ℕ). leb (2 ^ k) v) (omega arith)
 

@@ -3,7 +3,7 @@
 use mathlib.Core.Path.{_≡_, _∙_}
 use Prim.Native.Nat.{ℕ, _+_, _*_, _^_}
 use native.Mathlib.Omega.{arith}
-use Rattle.laws.specs.Packing.{masked-moved-up, first, over}
+use Rattle.laws.specs.Packing.{masked-moved-up, one-field, over}
 use Rattle.pixels.specs.Colours.{bits, expanded5551}
 use Rattle.pixels.proofs.colours.expand_5551.Statement.{statement}
 use Rattle.pixels.proofs.colours.expand_5551.Tie as tie
@@ -20,7 +20,7 @@ returns : tie.Need-returns
 unfolding expanded5551
 returns c =
     let v = c .args .v in
-    let blue = first (masked-moved-up v 6 0 2 tt) in
+    let blue = one-field (masked-moved-up v 6 0 2 tt) in
     let vd10 = over tt blue (masked-moved-up v 1 0 10 tt) in
     let green = over tt vd10 (masked-moved-up v 5 6 5 tt) in
     let vd18 = over tt green (masked-moved-up v 1 0 18 tt) in

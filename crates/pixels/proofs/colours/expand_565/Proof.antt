@@ -1,7 +1,7 @@
 -- `pixels::colours::expand_565` meets its contract: three fields, each moved to its lines. Assumes nothing.
 use mathlib.Core.Path.{_∙_}
 use native.Mathlib.Nat.{add-assoc}
-use Rattle.laws.specs.Packing.{masked-moved-up, first, over}
+use Rattle.laws.specs.Packing.{masked-moved-up, one-field, over}
 use Rattle.pixels.specs.Colours.{expanded565}
 use Rattle.pixels.proofs.colours.expand_565.Statement.{statement}
 use Rattle.pixels.proofs.colours.expand_565.Tie as tie
@@ -10,7 +10,7 @@ returns : tie.Need-returns
 unfolding expanded565
 returns c =
     let v = c .args .v in
-    let blue = first (masked-moved-up v 5 0 3 tt) in
+    let blue = one-field (masked-moved-up v 5 0 3 tt) in
     let green = over tt blue (masked-moved-up v 6 5 5 tt) in
     let red = over tt green (masked-moved-up v 5 11 8 tt) in
     red .is ∙ simp add-assoc

@@ -1,6 +1,6 @@
--- `fields::parts::fields_of` meets its contract: word by word. Assumes nothing.
-use Rattle.fields.proofs.parts.fields_of.Statement.{statement}
-use Rattle.fields.proofs.parts.fields_of.Tie as tie
+-- `fields::unpacking::fields_of` meets its contract: word by word. Assumes nothing.
+use Rattle.fields.proofs.unpacking.fields_of.Statement.{statement}
+use Rattle.fields.proofs.unpacking.fields_of.Tie as tie
 
 returns : tie.Need-returns
 returns c =

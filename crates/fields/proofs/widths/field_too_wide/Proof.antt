@@ -1,9 +1,9 @@
--- `fields::widths::too_wide` meets its contract: word by word. Assumes nothing.
+-- `fields::widths::field_too_wide` meets its contract: word by word. Assumes nothing.
 use mathlib.Core.Path.{sym}
 use Rattle.laws.specs.Booleans.{or-never}
 use Rattle.fields.specs.Writing.{fieldTooWide}
-use Rattle.fields.proofs.widths.too_wide.Statement.{statement}
-use Rattle.fields.proofs.widths.too_wide.Tie as tie
+use Rattle.fields.proofs.widths.field_too_wide.Statement.{statement}
+use Rattle.fields.proofs.widths.field_too_wide.Tie as tie
 
 returns : tie.Need-returns
 unfolding fieldTooWide
@@ -21,8 +21,8 @@ returns c =
       c .before .before .before .before .before .before .before .before .tpal-too-wide .ensures,
     )
 
-pub too-wide-spec : {M : Type 1} → statement M
-too-wide-spec =
+pub field-too-wide-spec : {M : Type 1} → statement M
+field-too-wide-spec =
     tie.close
     (tie.spec
     (λ c κs. tt)

@@ -1,6 +1,6 @@
--- `fields::parts::lcdcon3_of` meets its contract: each field is what the register gives. Assumes nothing.
-use Rattle.fields.proofs.parts.lcdcon3_of.Statement.{statement}
-use Rattle.fields.proofs.parts.lcdcon3_of.Tie as tie
+-- `fields::unpacking::lcdcon3_of` meets its contract: each field is what the register gives. Assumes nothing.
+use Rattle.fields.proofs.unpacking.lcdcon3_of.Statement.{statement}
+use Rattle.fields.proofs.unpacking.lcdcon3_of.Tie as tie
 
 returns : tie.Need-returns
 returns c = rw (c .before .before .hbpd .ensures, c .before .hozval .ensures, c .hfpd .ensures)

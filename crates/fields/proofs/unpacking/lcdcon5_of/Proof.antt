@@ -1,6 +1,6 @@
--- `fields::parts::lcdcon5_of` meets its contract: each field is what the register gives. Assumes nothing.
-use Rattle.fields.proofs.parts.lcdcon5_of.Statement.{statement}
-use Rattle.fields.proofs.parts.lcdcon5_of.Tie as tie
+-- `fields::unpacking::lcdcon5_of` meets its contract: each field is what the register gives. Assumes nothing.
+use Rattle.fields.proofs.unpacking.lcdcon5_of.Statement.{statement}
+use Rattle.fields.proofs.unpacking.lcdcon5_of.Tie as tie
 
 returns : tie.Need-returns
 returns c =
