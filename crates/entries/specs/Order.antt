@@ -18,19 +18,17 @@ use Rattle.fields.specs.declared.Tpal.{Tpal}
 
 -- ---- the entries of fields
 
--- of LCDCON1 to LCDCON4
-abbrev pub lcdcon1To4Entries : Fields → List ℕ
-lcdcon1To4Entries f =
-    lcdcon1Values (f .lcdcon1) ++ lcdcon2Values (f .lcdcon2) ++ lcdcon3Values (f .lcdcon3) ++ lcdcon4Values (f .lcdcon4)
-
--- of LCDSADDR1 to LCDSADDR3 and TPAL
-abbrev pub addressEntries : Fields → List ℕ
-addressEntries f =
-    lcdsaddr1Values (f .lcdsaddr1) ++ lcdsaddr2Values (f .lcdsaddr2) ++ lcdsaddr3Values (f .lcdsaddr3) ++ tpalValues (f .tpal)
-
--- of all nine
 abbrev pub fieldEntries : Fields → List ℕ
-fieldEntries f = lcdcon1To4Entries f ++ lcdcon5Values (f .lcdcon5) ++ addressEntries f
+fieldEntries f =
+    lcdcon1Values (f .lcdcon1)
+    ++ lcdcon2Values (f .lcdcon2)
+    ++ lcdcon3Values (f .lcdcon3)
+    ++ lcdcon4Values (f .lcdcon4)
+    ++ lcdcon5Values (f .lcdcon5)
+    ++ lcdsaddr1Values (f .lcdsaddr1)
+    ++ lcdsaddr2Values (f .lcdsaddr2)
+    ++ lcdsaddr3Values (f .lcdsaddr3)
+    ++ tpalValues (f .tpal)
 
 -- ---- the fields that entries in this order give
 

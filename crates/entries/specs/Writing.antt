@@ -2,12 +2,10 @@
 use mathlib.Core.Bool.{Bool, _||_}
 use mathlib.Core.List.{List, [], _∷_}
 use Prim.Native.Nat.{ℕ}
-use lib.ListN.{length, getD}
-use Rattle.laws.specs.Answers.{Answer, judged, Outcome, leaves, outcomeOn}
+use lib.ListN.{length}
+use Rattle.laws.specs.Answers.{Answer, judged, Outcome, outcomeOn}
 use Rattle.laws.specs.Cases.{_when_, lowest}
-use Rattle.laws.specs.Storing.{stores}
-use Rattle.registers.specs.Loading.{wordEntries, tooShort}
-use Rattle.registers.specs.declared.Words.{Words}
+use Rattle.registers.specs.Loading.{wordEntries, tooShort, putEntries}
 use Rattle.fields.specs.Writing.{write}
 use Rattle.fields.specs.declared.Fields.{Fields}
 use Rattle.entries.specs.Order.{fieldsIn}
@@ -20,13 +18,9 @@ tooFew fields out = tooShort (length fields) 34 || tooShort (length out) 9
 unfoldable pub loadFields : List ℕ → List ℕ → Answer Fields
 loadFields fields out = judged (lowest (10 when tooFew fields out ∷ [])) (fieldsIn fields)
 
--- the slice with the nine words at its front; the others stay
-unfoldable pub putWords : Words → List ℕ → List ℕ
-putWords w out = stores (λ i. getD (wordEntries w) i 0) 0 9 out
-
--- 12 is all that writing is refused by
+-- 12 is all that writing is refused by; the nine words to the first entries, the others stay
 unfoldable pub writeFieldsOf : Fields → List ℕ → Outcome
-writeFieldsOf f out = outcomeOn (write f) out (λ w. leaves 0 (putWords w out))
+writeFieldsOf f out = outcomeOn (write f) out (λ w. putEntries (wordEntries w) out)
 
 -- 10 comes before 12
 unfoldable pub writeFields : List ℕ → List ℕ → Outcome

@@ -6,7 +6,7 @@ ghost use lib.ListN.{length};
 ghost use Rattle.laws.specs.Answers.{leaves};
 ghost use Rattle.entries.specs.Order.{lcdcon1In, lcdcon2In, lcdcon3In, lcdcon4In, lcdcon5In, fieldsIn};
 ghost use Rattle.entries.specs.Order.{lcdsaddr1In, lcdsaddr2In, lcdsaddr3In, tpalIn};
-ghost use Rattle.entries.specs.Writing.{putWords, writeFieldsOf, writeFields};
+ghost use Rattle.entries.specs.Writing.{writeFieldsOf, writeFields};
 use fields::Fields;
 use fields::Lcdcon1;
 use fields::Lcdcon2;
@@ -19,7 +19,8 @@ use fields::Lcdsaddr3;
 use fields::Tpal;
 use fields::WordsWritten;
 use fields::write;
-use registers::Words;
+use registers::put_entries;
+use registers::word_entries;
 
 // ---- the fields in their slice
 
@@ -148,28 +149,11 @@ fn fields_in(fields: &[u32]) -> Fields
 
 // ---- the words in theirs
 
-fn put_words(w: Words, words: &mut [u32]) -> u32
-    requires { ⌜ 9 ≤ length (now words) ⌝ }
-    ensures { λ r. ⌜ leaves r (now (words .exit)) ≡ leaves 0 (putWords w (now (words .entry))) ⌝ }
-{
-    words[0] = w.lcdcon1;
-    words[1] = w.lcdcon2;
-    words[2] = w.lcdcon3;
-    words[3] = w.lcdcon4;
-    words[4] = w.lcdcon5;
-    words[5] = w.lcdsaddr1;
-    words[6] = w.lcdsaddr2;
-    words[7] = w.lcdsaddr3;
-    words[8] = w.tpal;
-    0
-}
-
 fn write_fields_of(f: Fields, words: &mut [u32]) -> u32
-    requires { ⌜ 9 ≤ length (now words) ⌝ }
     ensures { λ r. ⌜ leaves r (now (words .exit)) ≡ writeFieldsOf f (now (words .entry)) ⌝ }
 {
     match write(f) {
-        WordsWritten::Wrote(w) => put_words(w, words),
+        WordsWritten::Wrote(w) => put_entries(&word_entries(w), words),
         WordsWritten::Refused(n) => n,
     }
 }

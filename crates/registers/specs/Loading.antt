@@ -5,8 +5,9 @@ use mathlib.Core.List.{List, [], _∷_}
 use Prim.Native.Nat.{ℕ}
 use lib.Dec.{ltb}
 use lib.ListN.{length, getD}
-use Rattle.laws.specs.Answers.{Answer, accepted, refused, judged}
+use Rattle.laws.specs.Answers.{Answer, accepted, refused, judged, Outcome, outcome}
 use Rattle.laws.specs.Cases.{_when_, lowest}
+use Rattle.laws.specs.Storing.{stores}
 use Rattle.registers.specs.declared.Loaded.{Loaded}
 use Rattle.registers.specs.declared.Loaded.the-variants.{Nine, Refused}
 use Rattle.registers.specs.declared.Words.{Words}
@@ -56,3 +57,9 @@ shortOfNine s = tooShort (length s) 9
 -- what the slice gives
 unfoldable pub load : List ℕ → Answer Words
 load s = judged (lowest (10 when shortOfNine s ∷ [])) (nineWords s)
+
+-- numbers to the first entries of a slice, the others stay; 10: the slice has fewer
+unfoldable pub putEntries : List ℕ → List ℕ → Outcome
+putEntries numbers out =
+    outcome (lowest (10 when tooShort (length out) (length numbers) ∷ [])) out
+    (stores (λ i. getD numbers i 0) 0 (length numbers) out)

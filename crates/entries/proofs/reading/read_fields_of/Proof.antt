@@ -10,9 +10,11 @@ use Rattle.entries.proofs.reading.read_fields_of.Tie as tie
 returns : tie.Need-returns
 unfolding readFieldsOf
 returns c =
-    let f = c .before .before .before .before .before .f .given in
-    writes-on _ _ _ (f .0 .0) _
-    (sym (ap fieldsRead (f .1)) ∙ c .before .before .before .before .before .before .before .read .ensures) (c .before .before .put-fields .ensures)
+    let put = c .before .before in
+    let entries = put .before .before .before in
+    let known = entries .before .before in
+    writes-on _ _ _ (known .f .given .0 .0) _ (sym (ap fieldsRead (known .f .given .1)) ∙ known .before .before .read .ensures)
+    (rw (entries .field-entries .ensures) at (put .put-entries .ensures))
 
 returns-2 : tie.Need-returns-2
 unfolding readFieldsOf
@@ -24,6 +26,8 @@ pub read-fields-of-spec : {M : Type 1} → statement M
 read-fields-of-spec =
     tie.close
     (tie.spec
+    (λ c κs. tt)
+    (λ c. search needs)
     (λ c κs. tt)
     (λ c. search needs)
     (λ c κs. tt)

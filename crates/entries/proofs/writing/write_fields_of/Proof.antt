@@ -10,9 +10,11 @@ use Rattle.entries.proofs.writing.write_fields_of.Tie as tie
 returns : tie.Need-returns
 unfolding writeFieldsOf
 returns c =
-    let w = c .before .before .before .before .before .w .given in
-    writes-on _ _ _ (w .0 .0) _
-    (sym (ap wordsWritten (w .1)) ∙ c .before .before .before .before .before .before .before .write .ensures) (c .before .before .put-words .ensures)
+    let put = c .before .before in
+    let entries = put .before .before .before in
+    let known = entries .before .before in
+    writes-on _ _ _ (known .w .given .0 .0) _ (sym (ap wordsWritten (known .w .given .1)) ∙ known .before .before .write .ensures)
+    (rw (entries .word-entries .ensures) at (put .put-entries .ensures))
 
 returns-2 : tie.Need-returns-2
 unfolding writeFieldsOf
@@ -26,7 +28,9 @@ write-fields-of-spec =
     (tie.spec
     (λ c κs. tt)
     (λ c. search needs)
-    (λ c κs. search needs)
+    (λ c κs. tt)
+    (λ c. search needs)
+    (λ c κs. tt)
     (λ c. search needs)
     (λ c. search needs)
     returns
