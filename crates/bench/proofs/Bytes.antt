@@ -3,7 +3,7 @@ use Prim.Native.Nat.{ℕ, _+_, _*_, _%_, _^_, _<_}
 use mathlib.Core.Path.{_≡_, ap, _∙_}
 use lib.Dec.{T, leb, lit≤}
 use lib.Pow.{shl-exact}
-use Rattle.laws.specs.Packing.{Field, Packed}
+use Rattle.laws.specs.PackingLaws.{Field, Packed}
 
 -- b, which is the byte x, moved up inside a number of so many bits
 pub byte-moved-up : (b x low bits : ℕ) → T (leb (8 + low) bits) → (b ≡ x) × (b < 2 ^ 8)

@@ -5,7 +5,7 @@ use Prim.Native.Nat.{ℕ, _-_, _%_, _≤_}
 use native.Mathlib.Omega.{arith}
 use borrow.Author.Tests.{ltb-false}
 use lib.Dec.{eqb, ltb}
-use Rattle.laws.specs.Booleans.{or-false-left, or-false-right}
+use Rattle.laws.specs.BooleanLaws.{or-false-left, or-false-right}
 use Rattle.bench.specs.Input.{lengthRefused}
 
 pub accepted-length : (n : ℕ) → lengthRefused n ≡ false → (556 ≤ n) × (n ≤ 33324)

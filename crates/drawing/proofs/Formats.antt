@@ -11,8 +11,9 @@ use borrow.Author.Tests.{eqb-true, eq-eqb, ne-eqb}
 use lib.Arith.{digits-mod}
 use lib.Dec.{T, eqb, ltb, leb, eqb→eq, leb→le, ltb→lt}
 use lib.ListN.{length, getD}
-use Rattle.laws.specs.Storing.{stores, stores-as}
-use Rattle.laws.specs.Tables.{every}
+use Rattle.laws.specs.Storing.{stores}
+use Rattle.laws.specs.StoringLaws.{stores-as}
+use Rattle.laws.specs.TableLaws.{every}
 use Rattle.panel.specs.Refusals.{judge}
 use Rattle.panel.proofs.Accepted.{accepted-words, bswp-legal, hwswp-legal}
 use Rattle.panel.proofs.Modes.{size-passes}

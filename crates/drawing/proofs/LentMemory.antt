@@ -9,9 +9,11 @@ use native.Mathlib.Omega.{arith}
 use borrow.Author.Tests.{eqb-true, ltb-false, not-false}
 use lib.Dec.{eqb}
 use lib.ListN.{length}
-use Rattle.laws.specs.Booleans.{or-false, or-false-left, or-false-right}
-use Rattle.laws.specs.Storing.{stores, stores-as}
-use Rattle.laws.specs.Cases.{_when_, NoneHolds, both-pass}
+use Rattle.laws.specs.BooleanLaws.{or-false, or-false-left, or-false-right}
+use Rattle.laws.specs.Storing.{stores}
+use Rattle.laws.specs.StoringLaws.{stores-as}
+use Rattle.laws.specs.Cases.{_when_}
+use Rattle.laws.specs.CaseLaws.{NoneHolds, both-pass}
 use Rattle.panel.specs.Geometry.{width, height}
 use Rattle.panel.specs.Refusals.{wordCases, judge}
 use Rattle.panel.proofs.Accepted.{Accepted, accepted-words, pixels-in-row}

@@ -7,8 +7,9 @@ use Prim.Native.Nat.{ℕ, min, _+_, _-_, _*_, _/_, _%_, _^_, _<_, _≤_}
 use native.Mathlib.Nat.{add-assoc, div-add-mod'}
 use native.Mathlib.Omega.{arith}
 use lib.ListN.{length, getD}
-use Rattle.laws.specs.Products.{product-le}
-use Rattle.laws.specs.Storing.{stores, Stored, none-stored, some-more, all-stored}
+use Rattle.laws.specs.ProductLaws.{product-le}
+use Rattle.laws.specs.Storing.{stores}
+use Rattle.laws.specs.StoringLaws.{Stored, none-stored, some-more, all-stored}
 use Rattle.pixels.specs.Pixel.{indexed, shown}
 use Rattle.pixels.specs.declared.format.Format.{Format}
 use Rattle.drawing.specs.Colour.{storedPixel, rowColour}

@@ -7,7 +7,7 @@ use native.Mathlib.Nat.{mul-add}
 use native.Mathlib.Omega.{arith}
 use lib.Arith.{digits-div, digits-mod}
 use lib.ListN.{getD}
-use Rattle.laws.specs.Products.{product-le}
+use Rattle.laws.specs.ProductLaws.{product-le}
 use Rattle.pixels.specs.Order.{inOrder, exchangeHalves, pixelBits}
 use Rattle.pixels.proofs.PixelOrder.{pixel-bits-lt, whole-word, first-half-swapped, second-half-swapped, first-half-was-second, second-half-was-first}
 use Rattle.drawing.specs.Colour.{storedPixel}

@@ -1,13 +1,16 @@
--- Fields written and read back are the same (demand 2), entry by entry: where the writer takes a slice of fields, reading the words that
--- it left gives the first 34 entries again. Assumes nothing.
+-- Fields written and read back are the same (demand 2), entry by entry: where the writer takes a slice of fields, reading the words
+-- that it left gives the first 34 entries again. The claim is `entries-written-and-read`; it is proved here, and nothing need be
+-- believed beyond the definitions that it names. Assumes nothing.
 use mathlib.Core.List.{List, [], _∷_}
 use mathlib.Core.Path.{_≡_, sym, ap, _∙_}
 use Prim.Native.Nat.{ℕ, _≤_}
 use borrow.Author.Tests.{ltb-false}
 use lib.ListN.{length, getD}
-use Rattle.laws.specs.Answers.{accepted, judged, Outcome, leaves, writes-on, went-on}
-use Rattle.laws.specs.Booleans.{or-false-right}
-use Rattle.laws.specs.Cases.{_when_, lowest, lowest-zero-none-holds}
+use Rattle.laws.specs.Answers.{accepted, judged, Outcome, leaves}
+use Rattle.laws.specs.AnswerLaws.{writes-on, went-on}
+use Rattle.laws.specs.BooleanLaws.{or-false-right}
+use Rattle.laws.specs.Cases.{_when_, lowest}
+use Rattle.laws.specs.CaseLaws.{lowest-zero-none-holds}
 use Rattle.laws.specs.Storing.{stores}
 use Rattle.registers.proofs.Lending.{room-for-all, words-put-are-loaded}
 use Rattle.registers.specs.Loading.{load, wordEntries, tooShort, putEntries}

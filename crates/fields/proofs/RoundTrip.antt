@@ -5,14 +5,16 @@ use mathlib.Core.List.{List}
 use mathlib.Core.Path.{_≡_, refl, sym, ap, _∙_}
 use Prim.Native.Nat.{ℕ, _-_, _^_, _<_}
 use lib.ListN.{getD}
-use Rattle.laws.specs.Answers.{accepted, one-accepts, one-accepted}
+use Rattle.laws.specs.Answers.{accepted}
+use Rattle.laws.specs.AnswerLaws.{one-accepts, one-accepted}
 use Rattle.laws.specs.BitFields.{readOnlyBits}
-use Rattle.laws.specs.BitFields.RoundTrip.{packed-and-read, packed-is-clear, values-narrow, read-and-packed}
-use Rattle.laws.specs.Booleans.{AllFalse, all-false, none-true}
+use Rattle.laws.specs.BitFieldLaws.{packed-and-read, packed-is-clear, values-narrow, read-and-packed}
+use Rattle.laws.specs.BooleanLaws.{AllFalse, all-false, none-true}
 use Rattle.registers.specs.Fields.{reservedBit, reservedWords}
 use Rattle.registers.specs.Layouts.{LCDCON1, LCDCON2, LCDCON3, LCDCON4, LCDCON5, LCDSADDR1, LCDSADDR2, LCDSADDR3, TPAL}
 use Rattle.registers.specs.declared.Words.{Words}
-use Rattle.fields.specs.Fitting.{FieldsFit, fields-fit}
+use Rattle.fields.specs.Core.{FieldsFit}
+use Rattle.fields.proofs.Fitting.{fields-fit}
 use Rattle.fields.specs.Reading.{read, fieldsOf}
 use Rattle.fields.specs.Writing.{write, wordsOf, fieldTooWide, wideWords}
 use Rattle.fields.specs.Writing.{lcdcon1Values, lcdcon2Values, lcdcon3Values, lcdcon4Values, lcdcon5Values}

@@ -1,3 +1,3 @@
-pub mod Fitting
+pub mod Core
 pub mod Reading
 pub mod Writing

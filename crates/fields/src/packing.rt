@@ -1,9 +1,10 @@
 // Packing: each word from its lowest field up, by the bits as document 01 writes them. Read-only bits are 0.
 ghost use mathlib.Core.Path.{_≡_};
 ghost use Prim.Native.Nat.{suc, _+_, _-_, _*_, _^_, _≤_, _<_};
-ghost use Rattle.laws.specs.BitFields.{pack, Fit};
+ghost use Rattle.laws.specs.BitFields.{pack};
+ghost use Rattle.laws.specs.BitFieldLaws.{Fit};
 ghost use Rattle.registers.specs.Layouts.{LCDCON1, LCDCON2, LCDCON3, LCDCON4, LCDCON5, LCDSADDR1, LCDSADDR2, LCDSADDR3, TPAL};
-ghost use Rattle.fields.specs.Fitting.{FieldsFit};
+ghost use Rattle.fields.specs.Core.{FieldsFit};
 ghost use Rattle.fields.specs.Writing.{wordsOf};
 ghost use Rattle.fields.specs.Writing.{lcdcon1Values, lcdcon2Values, lcdcon3Values, lcdcon4Values, lcdcon5Values};
 ghost use Rattle.fields.specs.Writing.{lcdsaddr1Values, lcdsaddr2Values, lcdsaddr3Values, tpalValues};

@@ -2,7 +2,8 @@
 -- and the state is the next one. And what lies there after a list of calls goes on as the claim of demand 3 folds it. Assumes nothing.
 use mathlib.Core.Path.{_≡_, refl, ap, ap₂}
 use Prim.Native.Nat.{ℕ}
-use Rattle.laws.specs.Answers.{accepted, refused, orElse, maps, maps-refusal}
+use Rattle.laws.specs.Answers.{accepted, refused, orElse}
+use Rattle.laws.specs.AnswerLaws.{maps, maps-refusal}
 use Rattle.scanout.specs.Calls.{Lent, step}
 use Rattle.scanout.specs.Lists.{Calls, _then_, aStep, next, final}
 use Rattle.scanout.specs.declared.state.State.{State}

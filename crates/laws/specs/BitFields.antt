@@ -1,11 +1,10 @@
 -- A word's layout (document 01, "The nine words"): a list of spans from bit 31 down, each free, read-only or reserved.
--- Fields, widths, reserved bits and packing follow from the list alone; RoundTrip has their laws. Assumes nothing.
+-- Fields, widths, reserved bits and packing follow from the list alone. Promises cite these definitions, so a reader must believe
+-- them; their laws are in BitFieldLaws. Assumes nothing.
 use mathlib.Core.Bool.{Bool, false, _&&_, _||_}
 use mathlib.Core.List.{List, [], _∷_}
-use Prim.Native.Nat.{ℕ, suc, _+_, _-_, _*_, _/_, _%_, _^_, _<_}
+use Prim.Native.Nat.{ℕ, suc, _+_, _-_, _*_, _/_, _%_, _^_}
 use lib.Dec.{ltb, leb, eqb}
-use lib.ListN.{length}
-pub mod RoundTrip
 
 -- who may write a span: the program, only the chip, nobody
 pub data Access : Type 0 where
@@ -38,7 +37,7 @@ abbrev pub tiles : ℕ → List Span → Bool
 tiles n [] = eqb n 0
 tiles n (p ∷ ps) = eqb n (suc (p .high)) && leb (p .low) (p .high) && tiles (p .low) ps
 
-abbrev ifReserved : Access → Bool → Bool
+abbrev pub ifReserved : Access → Bool → Bool
 ifReserved Free b = false
 ifReserved ReadOnly b = false
 ifReserved Reserved b = b
@@ -48,7 +47,7 @@ abbrev pub reservedSet : List Span → ℕ → Bool
 reservedSet [] w = false
 reservedSet (p ∷ ps) w = reservedSet ps w || ifReserved (p .access) (ltb 0 (field p w))
 
-abbrev listed : Access → ℕ → List ℕ → List ℕ
+abbrev pub listed : Access → ℕ → List ℕ → List ℕ
 listed Free v vs = v ∷ vs
 listed ReadOnly v vs = vs
 listed Reserved v vs = vs
@@ -58,40 +57,31 @@ abbrev pub values : List Span → ℕ → List ℕ
 values [] w = []
 values (p ∷ ps) w = listed (p .access) (field p w) (values ps w)
 
--- how many spans are free
-abbrev pub freeSpans : List Span → ℕ
-freeSpans ps = length (values ps 0)
-
 -- the value of the next span, given the values of the free spans: "and written as 0"
-abbrev next : Access → List ℕ → ℕ
-next Free [] = 0
-next Free (v ∷ vs) = v
-next ReadOnly vs = 0
-next Reserved vs = 0
+abbrev pub nextValue : Access → List ℕ → ℕ
+nextValue Free [] = 0
+nextValue Free (v ∷ vs) = v
+nextValue ReadOnly vs = 0
+nextValue Reserved vs = 0
 
 -- the values that are left for the spans below it
-abbrev rest : Access → List ℕ → List ℕ
-rest Free [] = []
-rest Free (v ∷ vs) = vs
-rest ReadOnly vs = vs
-rest Reserved vs = vs
+abbrev pub otherValues : Access → List ℕ → List ℕ
+otherValues Free [] = []
+otherValues Free (v ∷ vs) = vs
+otherValues ReadOnly vs = vs
+otherValues Reserved vs = vs
 
 -- the word whose free spans have these values
 abbrev pub pack : List Span → List ℕ → ℕ
 pack [] vs = 0
-pack (p ∷ ps) vs = next (p .access) vs * 2 ^ p .low + pack ps (rest (p .access) vs)
+pack (p ∷ ps) vs = nextValue (p .access) vs * 2 ^ p .low + pack ps (otherValues (p .access) vs)
 
 -- some value is too wide for its span
 abbrev pub tooWide : List Span → List ℕ → Bool
 tooWide [] vs = false
-tooWide (p ∷ ps) vs = leb (2 ^ spanWidth p) (next (p .access) vs) || tooWide ps (rest (p .access) vs)
+tooWide (p ∷ ps) vs = leb (2 ^ spanWidth p) (nextValue (p .access) vs) || tooWide ps (otherValues (p .access) vs)
 
--- each value fits its span
-abbrev pub Fit : List Span → List ℕ → Type 0
-Fit [] vs = Unit
-Fit (p ∷ ps) vs = (next (p .access) vs < 2 ^ spanWidth p) × Fit ps (rest (p .access) vs)
-
-abbrev ifReadOnly : Access → ℕ → ℕ
+abbrev pub ifReadOnly : Access → ℕ → ℕ
 ifReadOnly Free v = 0
 ifReadOnly ReadOnly v = v
 ifReadOnly Reserved v = 0

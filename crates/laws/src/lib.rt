@@ -1,1 +1,1 @@
-// General laws that every layer cites. They stand in specs/; there is no code here.
+// Definitions that promises of every layer cite, and general laws. They stand in specs/; there is no code here.

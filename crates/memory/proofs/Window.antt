@@ -8,8 +8,9 @@ use native.Mathlib.Nat.{mul-le-mul-right}
 use native.Mathlib.Omega.{arith}
 use borrow.Author.Tests.{lt-ltb, le-ltb, ltb-true, ltb-false, eqb-true, not-false}
 use lib.Dec.{eqb, ltb}
-use Rattle.laws.specs.Booleans.{someBelow, none-below, one-below, or-false, or-false-left, or-false-right, or-true}
-use Rattle.laws.specs.Products.{product-le}
+use Rattle.laws.specs.Booleans.{someBelow}
+use Rattle.laws.specs.BooleanLaws.{none-below, one-below, or-false, or-false-left, or-false-right, or-true}
+use Rattle.laws.specs.ProductLaws.{product-le}
 use Rattle.panel.specs.Geometry.{width, height, pitch, rowOffset, storedBits}
 use Rattle.panel.proofs.Accepted.{Accepted, row-starts-at-word}
 use Rattle.panel.proofs.Bounds.{row-offset-le}

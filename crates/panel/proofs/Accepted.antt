@@ -8,8 +8,8 @@ use native.Mathlib.Nat.{mul-le-mul-right, mul-mod-left, mul-assoc, mul-comm, eq-
 use native.Mathlib.Omega.{arith}
 use borrow.Author.Tests.{eqb-true, eqb-false, ltb-false, not-false, eq-eqb, ne-eqb}
 use lib.Dec.{eqb}
-use Rattle.laws.specs.Booleans.{or-false-left, or-false-right}
-use Rattle.laws.specs.Cases.{NoneHolds, lowest-zero-none-holds}
+use Rattle.laws.specs.BooleanLaws.{or-false-left, or-false-right}
+use Rattle.laws.specs.CaseLaws.{NoneHolds, lowest-zero-none-holds}
 use Rattle.registers.specs.Fields.{pnrmode, bppmode, bswp, hwswp, lcdbaseu, lcdbasel, pagewidth, offsize, reservedBit}
 use Rattle.registers.specs.declared.Words.{Words}
 use Rattle.panel.specs.Geometry.{width, height, storedBits, outsideModes, pitch, rowOffset}

@@ -2,7 +2,7 @@
 -- overflows). Assumes nothing.
 use Prim.Native.Nat.{ℕ, _+_, _*_, _≤_, _^_}
 use native.Mathlib.Omega.{arith}
-use Rattle.laws.specs.Products.{product-le}
+use Rattle.laws.specs.ProductLaws.{product-le}
 use Rattle.registers.specs.Fields.{clkval}
 use Rattle.registers.specs.declared.Words.{Words}
 use Rattle.panel.specs.Counts.{frameTicks}

@@ -9,7 +9,8 @@ use native.Mathlib.Omega.{arith}
 use borrow.Author.Tests.{ne-eqb}
 use lib.Dec.{T, eqb}
 use Rattle.laws.specs.Answers.{accepted, judged, andThen, mapped}
-use Rattle.laws.specs.Cases.{lowest, lower, first, lowest-of-ascending-is-first}
+use Rattle.laws.specs.Cases.{lowest, lower}
+use Rattle.laws.specs.CaseLaws.{first, lowest-of-ascending-is-first}
 use Rattle.registers.specs.Fields.{bppmode, pagewidth, reservedBit}
 use Rattle.registers.specs.Loading.{load, tooShort, shortOfNine, nineWords}
 use Rattle.registers.specs.declared.Words.{Words}

@@ -6,8 +6,9 @@ use Prim.Native.Nat.{ℕ, _-_, _*_, _/_, _<_, _≤_}
 use native.Mathlib.Omega.{arith}
 use borrow.Author.Tests.{lt-leb, le-leb, leb-true, not-false}
 use lib.Dec.{T, leb, ltb, eqb, leb→le, ltb→lt, eqb→eq}
-use Rattle.laws.specs.Answers.{accepted, refused, one-accepted, one-refused}
-use Rattle.laws.specs.Tables.{every, entry-passes}
+use Rattle.laws.specs.Answers.{accepted, refused}
+use Rattle.laws.specs.AnswerLaws.{one-accepted, one-refused}
+use Rattle.laws.specs.TableLaws.{every, entry-passes}
 use Rattle.panel.specs.Geometry.{outsideModes, storedBits, depthOf}
 
 -- ---- outside

@@ -1,5 +1,5 @@
--- The conditions numbered 2 to 7 (document 01, "Numbers of refusal"), each under the table's own words, and the judgement by
--- 1 to 7. Assumes nothing.
+-- The conditions numbered 2 to 7 (document 01, "Numbers of refusal"), each under the table's own words, and the judgement by 1 to 7.
+-- Promises cite it, so a reader must believe it. Assumes nothing.
 use mathlib.Core.Bool.{Bool, not, _&&_, _||_}
 use mathlib.Core.List.{List, [], _∷_}
 use Prim.Native.Nat.{ℕ, _+_, _-_, _*_, _%_, _^_}

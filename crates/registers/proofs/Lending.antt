@@ -6,9 +6,11 @@ use native.Mathlib.Nat.{zero-add}
 use native.Mathlib.Omega.{arith}
 use borrow.Author.Tests.{le-ltb}
 use lib.ListN.{length, getD}
-use Rattle.laws.specs.Answers.{accepted, leaves, leaves-written, one-accepts}
-use Rattle.laws.specs.Cases.{none-of-one}
-use Rattle.laws.specs.Storing.{stores, entry-stored, length-stores}
+use Rattle.laws.specs.Answers.{accepted, leaves}
+use Rattle.laws.specs.AnswerLaws.{leaves-written, one-accepts}
+use Rattle.laws.specs.CaseLaws.{none-of-one}
+use Rattle.laws.specs.Storing.{stores}
+use Rattle.laws.specs.StoringLaws.{entry-stored, length-stores}
 use Rattle.registers.specs.Loading.{nineWords, wordEntries, tooShort, shortOfNine, load, putEntries}
 use Rattle.registers.specs.declared.Words.{Words}
 

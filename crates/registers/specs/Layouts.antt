@@ -1,9 +1,8 @@
 -- The nine words bit by bit (document 01, "The nine words"), in the paper's order and with its numbers: each field once, by its
--- highest and lowest bit, and each word as one list from bit 31 down. "All other bits are reserved." Assumes nothing.
+-- highest and lowest bit, and each word as one list from bit 31 down. "All other bits are reserved." Promises cite it, so a reader
+-- must believe it. Assumes nothing.
 use mathlib.Core.List.{List, [], _∷_}
-use mathlib.Core.Bool.{_&&_}
-use lib.Dec.{T}
-use Rattle.laws.specs.BitFields.{Span, free, readOnly, reserved, tiles}
+use Rattle.laws.specs.BitFields.{Span, free, readOnly, reserved}
 
 -- LCDCON1: LINECNT 27..18 (read-only), CLKVAL 17..8, MMODE 7, PNRMODE 6..5, BPPMODE 4..1, ENVID 0.
 abbrev pub LINECNT : Span
@@ -168,17 +167,3 @@ TPALVAL = free 23 0
 
 abbrev pub TPAL : List Span
 TPAL = reserved 31 25 ∷ TPALEN ∷ TPALVAL ∷ []
-
--- each of the 32 bits of each word lies in one span
-pub each-bit-once :
-    T
-    (tiles 32 LCDCON1
-    && tiles 32 LCDCON2
-    && tiles 32 LCDCON3
-    && tiles 32 LCDCON4
-    && tiles 32 LCDCON5
-    && tiles 32 LCDSADDR1
-    && tiles 32 LCDSADDR2
-    && tiles 32 LCDSADDR3
-    && tiles 32 TPAL)
-each-bit-once = tt

@@ -10,8 +10,9 @@ use borrow.Author.Tests.{leb-false, lt-leb, eq-eqb}
 use lib.Dec.{eqb, leb}
 use lib.ListN.{length}
 use Rattle.laws.specs.Answers.{judged, accepted}
-use Rattle.laws.specs.Booleans.{or-false, or-false-left, or-false-right}
-use Rattle.laws.specs.Cases.{Case, _when_, NoneHolds, lowest, lower, lowest-zero-none-holds, joined-pass, pass-joined, none-of-one}
+use Rattle.laws.specs.BooleanLaws.{or-false, or-false-left, or-false-right}
+use Rattle.laws.specs.Cases.{Case, _when_, lowest, lower}
+use Rattle.laws.specs.CaseLaws.{NoneHolds, lowest-zero-none-holds, joined-pass, pass-joined, none-of-one}
 use Rattle.drawing.specs.Colour.{colour}
 use Rattle.drawing.specs.Drawing.{videoOff, paletteWrong, rowOutside, columnOutside, drawingCases, judgePixel, drawPixel}
 use Rattle.memory.specs.Memory.{memoryCases}

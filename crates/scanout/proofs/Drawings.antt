@@ -9,7 +9,8 @@ use native.Mathlib.Omega.{arith}
 use borrow.Author.Tests.{le-ltb}
 use lib.ListN.{length}
 use Rattle.laws.specs.Answers.{Answer, accepted, outcome, leaves}
-use Rattle.laws.specs.Cases.{_when_, pass-joined, none-of-one}
+use Rattle.laws.specs.Cases.{_when_}
+use Rattle.laws.specs.CaseLaws.{pass-joined, none-of-one}
 use Rattle.laws.specs.Storing.{stores}
 use Rattle.drawing.specs.Drawing.{pixels, stretchOutside, drawingCases, judgeStretch, drawStretch}
 use Rattle.panel.specs.Geometry.{width, height}

@@ -6,7 +6,8 @@ use mathlib.Core.Path.{_≡_, refl, sym, ap, _∙_}
 use Prim.Native.Nat.{ℕ, zero, suc, _+_, _<_, _≤_}
 use native.Mathlib.Omega.{arith}
 use lib.ListN.{length}
-use Rattle.laws.specs.Answers.{Answer, accepted, refused, outcome, judged-accepted, judged-refused, orElse, is-refused, else-kept}
+use Rattle.laws.specs.Answers.{Answer, accepted, refused, outcome, orElse}
+use Rattle.laws.specs.AnswerLaws.{judged-accepted, judged-refused, is-refused, else-kept}
 use Rattle.drawing.specs.Drawing.{pixels}
 use Rattle.registers.specs.Loading.{tooShort}
 use Rattle.signals.specs.Clock.{clockAt}

@@ -8,7 +8,8 @@ use Prim.Native.Nat.{ℕ, zero, suc, _+_, _<_, _≤_}
 use native.Mathlib.Decide.{decLt}
 use native.Mathlib.Omega.{arith}
 use lib.ListN.{length}
-use Rattle.laws.specs.Answers.{Answer, accepted, refused, judged, andThen, judged-accepted, orElse, numberOf}
+use Rattle.laws.specs.Answers.{Answer, accepted, refused, judged, andThen, orElse, numberOf}
+use Rattle.laws.specs.AnswerLaws.{judged-accepted}
 use Rattle.drawing.specs.Drawing.{pixels}
 use Rattle.registers.specs.Loading.{load, tooShort}
 use Rattle.registers.specs.declared.Words.{Words}

@@ -7,7 +7,8 @@ use native.Mathlib.Omega.{arith}
 use borrow.Author.Tests.{ltb-false}
 use lib.ListN.{length, getD}
 use Rattle.laws.specs.Answers.{accepted, orElse}
-use Rattle.laws.specs.Storing.{stores, length-stores, entry-stored, entry-outside}
+use Rattle.laws.specs.Storing.{stores}
+use Rattle.laws.specs.StoringLaws.{length-stores, entry-stored, entry-outside}
 use Rattle.drawing.specs.Drawing.{pixels}
 use Rattle.registers.specs.Loading.{tooShort}
 use Rattle.panel.specs.Geometry.{width, height}

@@ -7,7 +7,7 @@ use native.Mathlib.Nat.{zero-add}
 use native.Mathlib.Omega.{arith}
 use lib.ListN.{length, getD}
 use lib.Seq.{getD-set-other}
-use Rattle.laws.specs.Storing.{entry-stored, entry-outside}
+use Rattle.laws.specs.StoringLaws.{entry-stored, entry-outside}
 use Rattle.signals.specs.declared.clock.Clock.{Clock}
 use Rattle.scanout.specs.declared.state.State.{State}
 use Rattle.scans.specs.Scan.{stateOf, entriesOf, putState, levels, putStep, putRun}

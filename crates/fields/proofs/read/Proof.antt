@@ -1,7 +1,7 @@
 -- `fields::read` meets its contract. Assumes nothing.
 use mathlib.Core.Path.{sym, _∙_}
 use lib.Dec.{lit<}
-use Rattle.laws.specs.Answers.{one-refuses, one-accepts}
+use Rattle.laws.specs.AnswerLaws.{one-refuses, one-accepts}
 use Rattle.fields.specs.Reading.{read}
 use Rattle.fields.proofs.read.Statement.{statement}
 use Rattle.fields.proofs.read.Tie as tie

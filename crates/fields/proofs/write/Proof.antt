@@ -1,8 +1,8 @@
 -- `fields::write` meets its contract. Assumes nothing.
 use mathlib.Core.Path.{sym, _∙_}
 use lib.Dec.{lit<}
-use Rattle.laws.specs.Answers.{one-refuses, one-accepts}
-use Rattle.fields.specs.Fitting.{fields-fit}
+use Rattle.laws.specs.AnswerLaws.{one-refuses, one-accepts}
+use Rattle.fields.proofs.Fitting.{fields-fit}
 use Rattle.fields.specs.Writing.{write}
 use Rattle.fields.proofs.write.Statement.{statement}
 use Rattle.fields.proofs.write.Tie as tie

@@ -42,7 +42,7 @@ use denote.Triple.Spec.{Meets, tripleOf}
 use denote.Triple.Table.{entered, cited}
 use denote.Triple.Walked.{says, Stays, walkOf}
 use denote.Triple.Clauses.{ensured, lasts}
-use Rattle.laws.specs.Walks.{no-requires, copied, freed, givenUp, all-go, ends-in, meets}
+use Rattle.laws.specs.WalkLaws.{no-requires, copied, freed, givenUp, all-go, ends-in, meets}
 use Rattle.scanout.specs.Core.{lending}
 use Rattle.scanout.specs.declared.state.State.{State}
 use Rattle.scanout.proofs.state.State as T

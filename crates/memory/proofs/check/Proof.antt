@@ -1,7 +1,7 @@
 -- `memory::check` meets its contract. Assumes nothing.
 use mathlib.Core.Path.{sym, ap, _∙_}
 use borrow.Author.Needs.{needs}
-use Rattle.laws.specs.Answers.{judges-on, passes-number}
+use Rattle.laws.specs.AnswerLaws.{judges-on, passes-number}
 use Rattle.registers.specs.Loading.{load, loaded}
 use Rattle.memory.specs.Memory.{check}
 use Rattle.memory.proofs.check.Statement.{statement}

@@ -1,7 +1,7 @@
 -- `memory::judge_memory` meets its contract: 1 to 7, and then 8. Assumes nothing.
 use mathlib.Core.Path.{sym, _∙_}
 use borrow.Author.Needs.{needs}
-use Rattle.laws.specs.Cases.{front-refuses, front-passes, stops, ends}
+use Rattle.laws.specs.CaseLaws.{front-refuses, front-passes, stops, ends}
 use Rattle.panel.specs.Refusals.{judge}
 use Rattle.memory.specs.Memory.{judgeMemory}
 use Rattle.memory.proofs.judge_memory.Statement.{statement}

@@ -44,7 +44,7 @@ use Rattle.drawing.proofs.pixel.Drawn as S
 use Rattle.drawing.proofs.pixel.Drawn.Laws as S′
 use Rattle.reader.specs.Reading.{readerOf, lookUp}
 use Rattle.reader.specs.declared.Reader.{Reader}
-use Rattle.laws.specs.Walks.{no-requires, copied, freed, told, givenUp, all-go, ends-told, meets}
+use Rattle.laws.specs.WalkLaws.{no-requires, copied, freed, told, givenUp, all-go, ends-told, meets}
 use Rattle.reader.proofs.Reader as T
 use Rattle.reader.proofs.Reader.Laws as T′
 use Rattle.reader.proofs.Reader.new as new

@@ -3,7 +3,7 @@ use borrow.Author.Needs.{needs}
 use borrow.Author.Tests.{lt-ltb, le-ltb}
 use mathlib.Core.Path.{refl}
 use lib.Dec.{lit<}
-use Rattle.laws.specs.Answers.{one-refuses, one-accepts}
+use Rattle.laws.specs.AnswerLaws.{one-refuses, one-accepts}
 use Rattle.registers.specs.Loading.{load, tooShort, shortOfNine}
 use Rattle.registers.proofs.load.Statement.{statement}
 use Rattle.registers.proofs.load.Tie as tie

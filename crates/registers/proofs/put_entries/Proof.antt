@@ -5,9 +5,10 @@ use native.Mathlib.Omega.{arith}
 use borrow.Author.Needs.{needs}
 use borrow.Author.Tests.{lt-ltb}
 use lib.ListN.{length, getD}
-use Rattle.laws.specs.Answers.{leaves, leaves-as-it-was}
-use Rattle.laws.specs.Cases.{lowest-of-ascending-is-first, stops}
-use Rattle.laws.specs.Storing.{Stored, none-stored, one-more, all-stored}
+use Rattle.laws.specs.Answers.{leaves}
+use Rattle.laws.specs.AnswerLaws.{leaves-as-it-was}
+use Rattle.laws.specs.CaseLaws.{lowest-of-ascending-is-first, stops}
+use Rattle.laws.specs.StoringLaws.{Stored, none-stored, one-more, all-stored}
 use Rattle.registers.specs.Loading.{tooShort, putEntries}
 use Rattle.registers.proofs.Lending.{room-for-all}
 use Rattle.registers.proofs.put_entries.Statement.{statement}

@@ -1,7 +1,7 @@
 -- `scans::change_on` meets its contract. Assumes nothing.
 use borrow.Author.Needs.{needs}
 use mathlib.Core.Path.{sym, ap, _∙_}
-use Rattle.laws.specs.Answers.{writes-on, leaves-on}
+use Rattle.laws.specs.AnswerLaws.{writes-on, leaves-on}
 use Rattle.scanout.specs.Answers.{changed}
 use Rattle.scans.specs.Scan.{changeOn}
 use Rattle.scans.proofs.change_on.Statement.{statement}

@@ -2,7 +2,7 @@
 use borrow.Author.Needs.{needs}
 use borrow.Author.Tests.{lt-ltb, le-ltb}
 use native.Mathlib.Omega.{arith}
-use Rattle.laws.specs.Answers.{one-refuses, one-accepts, writes-on, leaves-on}
+use Rattle.laws.specs.AnswerLaws.{one-refuses, one-accepts, writes-on, leaves-on}
 use Rattle.registers.specs.Loading.{tooShort}
 use Rattle.scans.specs.Scan.{loadScan, changeScan}
 use Rattle.scans.proofs.change_scan.Statement.{statement}

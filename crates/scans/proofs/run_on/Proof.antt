@@ -5,7 +5,8 @@ use mathlib.Core.List.{List}
 use mathlib.Core.Path.{_≡_, sym, ap, ap₂, _∙_}
 use Prim.Native.Nat.{ℕ, _<_}
 use Rattle.panel.proofs.Bounds.{frame-clocks-le}
-use Rattle.laws.specs.Answers.{Answer, accepted, refused, judged-accepted, Outcome, leaves, writes-on, leaves-on}
+use Rattle.laws.specs.Answers.{Answer, accepted, refused, Outcome, leaves}
+use Rattle.laws.specs.AnswerLaws.{judged-accepted, writes-on, leaves-on}
 use Rattle.scanout.specs.Answers.{Taken, ran}
 use Rattle.scanout.specs.Calls.{Lent, Run, countOf, run}
 use Rattle.scanout.specs.Core.{running}

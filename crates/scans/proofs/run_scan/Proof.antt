@@ -5,7 +5,8 @@ use borrow.Author.Tests.{lt-ltb, le-ltb}
 use mathlib.Core.List.{List}
 use mathlib.Core.Path.{_≡_, ap, _∙_}
 use Prim.Native.Nat.{ℕ}
-use Rattle.laws.specs.Answers.{Answer, accepted, refused, leaves, one-refuses, one-accepts}
+use Rattle.laws.specs.Answers.{Answer, accepted, refused, leaves}
+use Rattle.laws.specs.AnswerLaws.{one-refuses, one-accepts}
 use Rattle.registers.specs.Loading.{tooShort}
 use Rattle.scanout.specs.Calls.{Lent}
 use Rattle.scanout.specs.declared.state.State.{State}

@@ -1,7 +1,7 @@
 -- `scans::start_scan` meets its contract. Assumes nothing.
 use borrow.Author.Needs.{needs}
 use mathlib.Core.Path.{sym, ap, _∙_}
-use Rattle.laws.specs.Answers.{writes-on, leaves-on}
+use Rattle.laws.specs.AnswerLaws.{writes-on, leaves-on}
 use Rattle.scanout.specs.Answers.{started}
 use Rattle.scans.specs.Scan.{startScan}
 use Rattle.scans.proofs.start_scan.Statement.{statement}

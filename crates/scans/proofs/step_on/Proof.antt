@@ -1,7 +1,7 @@
 -- `scans::step_on` meets its contract. Assumes nothing.
 use borrow.Author.Needs.{needs}
 use mathlib.Core.Path.{sym, ap, _∙_}
-use Rattle.laws.specs.Answers.{writes-on, leaves-on}
+use Rattle.laws.specs.AnswerLaws.{writes-on, leaves-on}
 use Rattle.scanout.specs.Answers.{stepped}
 use Rattle.scans.specs.Scan.{stepOn}
 use Rattle.scans.proofs.step_on.Statement.{statement}

@@ -1,7 +1,7 @@
 -- `sizes::read_sizes` meets its contract. Assumes nothing.
 use borrow.Author.Needs.{needs}
 use mathlib.Core.Path.{sym, ap, _∙_}
-use Rattle.laws.specs.Answers.{writes-on, leaves-on}
+use Rattle.laws.specs.AnswerLaws.{writes-on, leaves-on}
 use Rattle.registers.specs.Loading.{loaded}
 use Rattle.sizes.specs.Sizes.{readSizes}
 use Rattle.sizes.proofs.read_sizes.Statement.{statement}

@@ -2,7 +2,7 @@
 use borrow.Author.Needs.{needs}
 use mathlib.Core.Path.{sym, _∙_}
 use lib.Dec.{lit<}
-use Rattle.laws.specs.Answers.{one-refuses, one-accepts, writes-on, leaves-on}
+use Rattle.laws.specs.AnswerLaws.{one-refuses, one-accepts, writes-on, leaves-on}
 use Rattle.sizes.specs.Sizes.{readSizesOf}
 use Rattle.sizes.proofs.read_sizes_of.Statement.{statement}
 use Rattle.sizes.proofs.read_sizes_of.Tie as tie

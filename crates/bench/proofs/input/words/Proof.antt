@@ -2,7 +2,7 @@
 use Prim.Native.Nat.{_+_, _*_, _-_, _≤_}
 use native.Mathlib.Omega.{arith}
 use borrow.Author.Needs.{needs}
-use Rattle.laws.specs.Storing.{Stored, none-stored, one-more, all-stored}
+use Rattle.laws.specs.StoringLaws.{Stored, none-stored, one-more, all-stored}
 use Rattle.bench.specs.Input.{lowFirst}
 use Rattle.bench.proofs.input.words.Statement.{statement}
 use Rattle.bench.proofs.input.words.Tie as tie

@@ -3,7 +3,7 @@ use mathlib.Core.Path.{refl, ap, _∙_}
 use Prim.Native.Nat.{ℕ, _-_, _/_, _%_, _≤_}
 use native.Mathlib.Omega.{arith}
 use borrow.Author.Needs.{needs}
-use Rattle.laws.specs.Storing.{Stored, none-stored, one-more, all-stored}
+use Rattle.laws.specs.StoringLaws.{Stored, none-stored, one-more, all-stored}
 use Rattle.bench.specs.Output.{digitChar, colourText}
 use Rattle.bench.proofs.Lines.{digit-place}
 use Rattle.bench.proofs.output.spell_colour.Statement.{statement}

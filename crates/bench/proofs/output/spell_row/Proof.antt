@@ -4,7 +4,7 @@ use Prim.Native.Nat.{ℕ, _+_, _*_, _-_, _≤_}
 use native.Mathlib.Omega.{arith}
 use borrow.Author.Needs.{needs}
 use lib.ListN.{length}
-use Rattle.laws.specs.Storing.{Stored, none-stored, one-more, some-more, so-many-stored, all-stored, left-length}
+use Rattle.laws.specs.StoringLaws.{Stored, none-stored, one-more, some-more, so-many-stored, all-stored, left-length}
 use Rattle.bench.specs.Output.{rowText}
 use Rattle.bench.proofs.Lines.{digit-in-line, parting-in-line}
 use Rattle.bench.proofs.output.spell_row.Statement.{statement}

@@ -2,7 +2,7 @@
 use mathlib.Core.Path.{sym, _∙_}
 use Prim.Native.Nat.{_+_}
 use borrow.Author.Needs.{needs}
-use Rattle.laws.specs.Storing.{stores-same}
+use Rattle.laws.specs.StoringLaws.{stores-same}
 use Rattle.drawing.specs.Colour.{rowColour}
 use Rattle.drawing.proofs.Formats.{temporary-colour}
 use Rattle.drawing.proofs.columns.draw_columns.Statement.{statement}

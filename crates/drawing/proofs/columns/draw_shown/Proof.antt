@@ -2,7 +2,7 @@
 use Prim.Native.Nat.{_+_, _-_}
 use native.Mathlib.Omega.{arith}
 use borrow.Author.Needs.{needs}
-use Rattle.laws.specs.Storing.{left-length}
+use Rattle.laws.specs.StoringLaws.{left-length}
 use Rattle.drawing.proofs.Formats.{bits-pos, bits-fill, row-shorter}
 use Rattle.drawing.proofs.Parts.{Split, bits-few, rest-in-words, words-lie-inside, drawn-in-parts}
 use Rattle.drawing.proofs.columns.draw_shown.Statement.{statement}

@@ -3,7 +3,7 @@ use mathlib.Core.Path.{refl}
 use Prim.Native.Nat.{_≤_, _-_}
 use native.Mathlib.Omega.{arith}
 use borrow.Author.Needs.{needs}
-use Rattle.laws.specs.Storing.{Stored, none-stored, one-more, all-stored}
+use Rattle.laws.specs.StoringLaws.{Stored, none-stored, one-more, all-stored}
 use Rattle.drawing.proofs.columns.fill.Statement.{statement}
 use Rattle.drawing.proofs.columns.fill.Tie as tie
 

@@ -2,7 +2,7 @@
 use mathlib.Core.Path.{sym}
 use native.Mathlib.Omega.{arith}
 use borrow.Author.Needs.{needs}
-use Rattle.laws.specs.Products.{product-le}
+use Rattle.laws.specs.ProductLaws.{product-le}
 use Rattle.drawing.proofs.Formats.{begins-word, past-word, size-le}
 use Rattle.drawing.proofs.columns.past_last_word.Statement.{statement}
 use Rattle.drawing.proofs.columns.past_last_word.Tie as tie

@@ -6,7 +6,7 @@ use native.Mathlib.Omega.{arith}
 use borrow.Author.Needs.{needs}
 use lib.ListN.{length}
 use lib.Pow.{pow-pos}
-use Rattle.laws.specs.Products.{product-le}
+use Rattle.laws.specs.ProductLaws.{product-le}
 use Rattle.pixels.specs.Pixel.{indexed, shown}
 use Rattle.drawing.proofs.Formats.{bits-pos, bits-le, word-inside, cut-pixel, cut-inside, temporary-colour, shown-colour}
 use Rattle.drawing.proofs.columns.pixel_at.Statement.{statement}

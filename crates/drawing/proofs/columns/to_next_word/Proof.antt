@@ -4,7 +4,7 @@ use Prim.Native.Nat.{ℕ, _-_, _*_, _/_, _%_}
 use native.Mathlib.Nat.{add-zero, div-le-self}
 use native.Mathlib.Omega.{arith}
 use borrow.Author.Needs.{needs}
-use Rattle.laws.specs.Products.{product-le}
+use Rattle.laws.specs.ProductLaws.{product-le}
 use Rattle.drawing.proofs.Formats.{begins-word, left-in-word, size-le}
 use Rattle.drawing.proofs.columns.to_next_word.Statement.{statement}
 use Rattle.drawing.proofs.columns.to_next_word.Tie as tie

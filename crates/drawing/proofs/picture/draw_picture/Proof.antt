@@ -3,8 +3,8 @@ use mathlib.Core.Path.{_≡_, sym, ap, _∙_}
 use native.Mathlib.Omega.{arith}
 use borrow.Author.Needs.{needs}
 use lib.ListN.{length}
-use Rattle.laws.specs.Answers.{leaves-as-it-was, leaves-written}
-use Rattle.laws.specs.Storing.{stores-as}
+use Rattle.laws.specs.AnswerLaws.{leaves-as-it-was, leaves-written}
+use Rattle.laws.specs.StoringLaws.{stores-as}
 use Rattle.drawing.specs.Drawing.{pixels, judgeDrawing, colourInOrder, judgePicture, drawPicture}
 use Rattle.registers.specs.Loading.{tooShort}
 use Rattle.drawing.proofs.LentMemory.{lent-with-room}

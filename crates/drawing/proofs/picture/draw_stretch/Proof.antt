@@ -5,8 +5,8 @@ use native.Mathlib.Omega.{arith}
 use borrow.Author.Needs.{needs}
 use borrow.Author.Tests.{lt-ltb, le-ltb}
 use lib.ListN.{length}
-use Rattle.laws.specs.Answers.{leaves-as-it-was, leaves-written}
-use Rattle.laws.specs.Cases.{front-refuses, front-passes, stops, ends}
+use Rattle.laws.specs.AnswerLaws.{leaves-as-it-was, leaves-written}
+use Rattle.laws.specs.CaseLaws.{front-refuses, front-passes, stops, ends}
 use Rattle.drawing.specs.Drawing.{pixels, stretchOutside, judgeDrawing, judgeStretch, drawStretch}
 use Rattle.registers.specs.Loading.{tooShort}
 use Rattle.drawing.proofs.LentMemory.{lent-with-room}

@@ -1,7 +1,7 @@
 -- `drawing::picture::pixels_of` meets its contract. Assumes nothing.
 use Prim.Native.Nat.{_*_, _≤_}
 use native.Mathlib.Omega.{arith}
-use Rattle.laws.specs.Products.{product-le}
+use Rattle.laws.specs.ProductLaws.{product-le}
 use Rattle.drawing.proofs.picture.pixels_of.Statement.{statement}
 use Rattle.drawing.proofs.picture.pixels_of.Tie as tie
 

@@ -6,9 +6,9 @@ use native.Mathlib.Omega.{arith}
 use borrow.Author.Tests.{leb-false}
 use lib.Dec.{leb}
 use lib.ListN.{length}
-use Rattle.laws.specs.Answers.{gives-refusal, gives-answer}
-use Rattle.laws.specs.Booleans.{or-false-left, or-false-right}
-use Rattle.laws.specs.Cases.{front-refuses, front-passes, stops, ends}
+use Rattle.laws.specs.AnswerLaws.{gives-refusal, gives-answer}
+use Rattle.laws.specs.BooleanLaws.{or-false-left, or-false-right}
+use Rattle.laws.specs.CaseLaws.{front-refuses, front-passes, stops, ends}
 use Rattle.panel.specs.Geometry.{height}
 use Rattle.drawing.specs.Core.{Lent}
 use Rattle.drawing.specs.Drawing.{rowOutside, columnOutside, judgeDrawing, judgePixel, drawPixel}

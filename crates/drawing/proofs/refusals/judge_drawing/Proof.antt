@@ -1,7 +1,7 @@
 -- `drawing::refusals::judge_drawing` meets its contract. 1 to 8, and then 9 and 10. Assumes nothing.
 use mathlib.Core.Path.{sym, _∙_}
 use borrow.Author.Tests.{eq-eqb, ne-eqb}
-use Rattle.laws.specs.Cases.{front-refuses, front-passes, skips, stops, ends}
+use Rattle.laws.specs.CaseLaws.{front-refuses, front-passes, skips, stops, ends}
 use Rattle.memory.specs.Memory.{judgeMemory}
 use Rattle.drawing.specs.Drawing.{videoOff, paletteWrong, judgeDrawing}
 use Rattle.drawing.proofs.refusals.judge_drawing.Statement.{statement}

@@ -2,7 +2,7 @@
 use mathlib.Core.Path.{ap, _∙_}
 use native.Mathlib.Omega.{arith}
 use borrow.Author.Needs.{needs}
-use Rattle.laws.specs.Storing.{stores-same}
+use Rattle.laws.specs.StoringLaws.{stores-same}
 use Rattle.drawing.specs.Colour.{rowColour}
 use Rattle.drawing.proofs.Formats.{row-shorter, no-table}
 use Rattle.drawing.proofs.row.draw_from.Statement.{statement}

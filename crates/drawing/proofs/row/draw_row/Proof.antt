@@ -5,8 +5,8 @@ use native.Mathlib.Omega.{arith}
 use borrow.Author.Needs.{needs}
 use borrow.Author.Tests.{lt-leb, le-leb}
 use lib.ListN.{length}
-use Rattle.laws.specs.Answers.{leaves-as-it-was, leaves-written}
-use Rattle.laws.specs.Cases.{front-refuses, front-passes, stops, ends}
+use Rattle.laws.specs.AnswerLaws.{leaves-as-it-was, leaves-written}
+use Rattle.laws.specs.CaseLaws.{front-refuses, front-passes, stops, ends}
 use Rattle.panel.specs.Geometry.{width, height}
 use Rattle.drawing.specs.Core.{Lent}
 use Rattle.drawing.specs.Drawing.{rowOutside, judgeDrawing, judgeRow, drawRow}

@@ -5,7 +5,8 @@ use Prim.Native.Nat.{ℕ, _^_, _≤_}
 use native.Mathlib.Omega.{arith}
 use borrow.Author.Needs.{needs}
 use lib.ListN.{length, getD}
-use Rattle.laws.specs.Storing.{stores, left-length, entry-stored}
+use Rattle.laws.specs.Storing.{stores}
+use Rattle.laws.specs.StoringLaws.{left-length, entry-stored}
 use Rattle.pixels.specs.Pixel.{indexed}
 use Rattle.pixels.specs.declared.format.Format.{Format}
 use Rattle.drawing.specs.Core.{Expanded}

@@ -3,7 +3,7 @@ use Prim.Native.Nat.{_≤_, _-_}
 use native.Mathlib.Omega.{arith}
 use borrow.Author.Needs.{needs}
 use lib.ListN.{getD}
-use Rattle.laws.specs.Storing.{Stored, none-stored, one-more, all-stored}
+use Rattle.laws.specs.StoringLaws.{Stored, none-stored, one-more, all-stored}
 use Rattle.pixels.specs.Colours.{expanded}
 use Rattle.drawing.proofs.table.expand_palette.Statement.{statement}
 use Rattle.drawing.proofs.table.expand_palette.Tie as tie

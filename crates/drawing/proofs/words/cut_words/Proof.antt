@@ -4,7 +4,7 @@ use mathlib.Core.Path.{refl, sym, ap, _∙_}
 use Prim.Native.Nat.{_+_, _≤_, _-_}
 use native.Mathlib.Omega.{arith}
 use borrow.Author.Needs.{needs}
-use Rattle.laws.specs.Storing.{Stored, none-stored, one-more, all-stored}
+use Rattle.laws.specs.StoringLaws.{Stored, none-stored, one-more, all-stored}
 use Rattle.pixels.specs.Colours.{cut24}
 use Rattle.drawing.specs.Colour.{storedPixel}
 use Rattle.drawing.proofs.Pixels.{word-is-pixel}

@@ -5,7 +5,7 @@ use Prim.Native.Nat.{_*_, _≤_, _-_}
 use native.Mathlib.Omega.{arith}
 use borrow.Author.Needs.{needs}
 use lib.ListN.{length-set}
-use Rattle.laws.specs.Storing.{Stored, none-stored, one-more, so-many-stored, all-stored}
+use Rattle.laws.specs.StoringLaws.{Stored, none-stored, one-more, so-many-stored, all-stored}
 use Rattle.pixels.specs.Colours.{expanded}
 use Rattle.drawing.specs.Colour.{storedPixel}
 use Rattle.drawing.proofs.Pixels.{first-of-two, second-of-two}

@@ -5,7 +5,7 @@ use native.Mathlib.Nat.{div-le-self, lt-of-lt-of-le}
 use native.Mathlib.Omega.{arith}
 use borrow.Author.Needs.{needs}
 use lib.ListN.{length, getD}
-use Rattle.laws.specs.Storing.{Stored, none-stored, one-more, all-stored}
+use Rattle.laws.specs.StoringLaws.{Stored, none-stored, one-more, all-stored}
 use Rattle.pixels.specs.Order.{pixelBits}
 use Rattle.pixels.proofs.PixelOrder.{pixel-past, pixel-bits-lt}
 use Rattle.drawing.proofs.Pixels.{pixel-inside}

@@ -6,7 +6,7 @@ use native.Mathlib.Nat.{add-mul, div-le-self, mul-le-mul-right}
 use native.Mathlib.Omega.{arith}
 use borrow.Author.Needs.{needs}
 use lib.ListN.{length, getD}
-use Rattle.laws.specs.Storing.{Stored, none-stored, some-more, so-many-stored, all-stored}
+use Rattle.laws.specs.StoringLaws.{Stored, none-stored, some-more, so-many-stored, all-stored}
 use Rattle.pixels.specs.Order.{pixelBits}
 use Rattle.drawing.specs.Colour.{storedPixel}
 use Rattle.drawing.proofs.Pixels.{word-pixel}

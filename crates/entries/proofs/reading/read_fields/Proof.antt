@@ -1,7 +1,7 @@
 -- `entries::reading::read_fields` meets its contract. Assumes nothing.
 use borrow.Author.Needs.{needs}
 use mathlib.Core.Path.{sym, ap, _∙_}
-use Rattle.laws.specs.Answers.{writes-on, leaves-on}
+use Rattle.laws.specs.AnswerLaws.{writes-on, leaves-on}
 use Rattle.registers.specs.Loading.{loaded}
 use Rattle.entries.specs.Reading.{readFields}
 use Rattle.entries.proofs.reading.read_fields.Statement.{statement}

@@ -1,7 +1,7 @@
 -- `entries::reading::read_fields_of` meets its contract. Assumes nothing.
 use borrow.Author.Needs.{needs}
 use mathlib.Core.Path.{sym, ap, _∙_}
-use Rattle.laws.specs.Answers.{writes-on, leaves-on}
+use Rattle.laws.specs.AnswerLaws.{writes-on, leaves-on}
 use Rattle.fields.specs.Reading.{fieldsRead}
 use Rattle.entries.specs.Reading.{readFieldsOf}
 use Rattle.entries.proofs.reading.read_fields_of.Statement.{statement}

@@ -7,8 +7,8 @@ use mathlib.Core.List.{List}
 use mathlib.Core.Path.{_≡_, ap, _∙_}
 use Prim.Native.Nat.{ℕ, _<_, _≤_}
 use lib.ListN.{length}
-use Rattle.laws.specs.Answers.{one-refuses, one-accepts, writes-on, leaves-on}
-use Rattle.laws.specs.Booleans.{or-false, or-true}
+use Rattle.laws.specs.AnswerLaws.{one-refuses, one-accepts, writes-on, leaves-on}
+use Rattle.laws.specs.BooleanLaws.{or-false, or-true}
 use Rattle.registers.specs.Loading.{tooShort}
 use Rattle.entries.specs.Writing.{tooFew, loadFields, writeFields}
 use Rattle.entries.proofs.writing.write_fields.Statement.{statement}

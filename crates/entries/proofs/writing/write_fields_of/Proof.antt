@@ -1,7 +1,7 @@
 -- `entries::writing::write_fields_of` meets its contract. Assumes nothing.
 use borrow.Author.Needs.{needs}
 use mathlib.Core.Path.{sym, ap, _∙_}
-use Rattle.laws.specs.Answers.{writes-on, leaves-on}
+use Rattle.laws.specs.AnswerLaws.{writes-on, leaves-on}
 use Rattle.fields.specs.Writing.{wordsWritten}
 use Rattle.entries.specs.Writing.{writeFieldsOf}
 use Rattle.entries.proofs.writing.write_fields_of.Statement.{statement}

@@ -3,7 +3,7 @@ use mathlib.Core.Path.{_≡_}
 use Prim.Native.Nat.{ℕ, suc, _+_, _-_}
 use native.Mathlib.Omega.{arith}
 use borrow.Author.Needs.{needs}
-use Rattle.laws.specs.Shifts.{shift-and-join, joined-lt}
+use Rattle.laws.specs.ShiftLaws.{shift-and-join, joined-lt}
 use Rattle.fields.proofs.packing.put.Statement.{statement}
 use Rattle.fields.proofs.packing.put.Tie as tie
 

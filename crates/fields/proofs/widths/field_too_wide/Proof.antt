@@ -1,6 +1,6 @@
 -- `fields::widths::field_too_wide` meets its contract: word by word. Assumes nothing.
 use mathlib.Core.Path.{sym}
-use Rattle.laws.specs.Booleans.{or-never}
+use Rattle.laws.specs.BooleanLaws.{or-never}
 use Rattle.fields.specs.Writing.{fieldTooWide}
 use Rattle.fields.proofs.widths.field_too_wide.Statement.{statement}
 use Rattle.fields.proofs.widths.field_too_wide.Tie as tie

@@ -5,7 +5,7 @@ use Prim.Native.Nat.{ℕ, suc, _+_, _-_, _/_, _^_, _≤_}
 use native.Mathlib.Omega.{arith}
 use borrow.Author.Needs.{needs}
 use lib.Dec.{leb, ltb}
-use Rattle.laws.specs.Shifts.{bits-beyond}
+use Rattle.laws.specs.ShiftLaws.{bits-beyond}
 use Rattle.fields.proofs.widths.wider.Statement.{statement}
 use Rattle.fields.proofs.widths.wider.Tie as tie
 

@@ -2,7 +2,8 @@
 use mathlib.Core.Path.{_≡_, sym, ap, _∙_}
 use Prim.Native.Nat.{ℕ, _<_, _≤_}
 use borrow.Author.Tests.{lt-ltb, le-ltb}
-use Rattle.laws.specs.Cases.{lower, lower-none, lowest}
+use Rattle.laws.specs.Cases.{lower, lowest}
+use Rattle.laws.specs.CaseLaws.{lower-none}
 use Rattle.registers.specs.Loading.{tooShort}
 use Rattle.lcd.specs.Pixel.{judgeEntries}
 use Rattle.lcd.proofs.pixel.beside_entries.Statement.{statement}

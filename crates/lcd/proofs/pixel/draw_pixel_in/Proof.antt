@@ -5,8 +5,10 @@ use mathlib.Core.List.{List}
 use mathlib.Core.Path.{_≡_, sym, ap, ap₂, _∙_}
 use Prim.Native.Nat.{ℕ, _<_}
 use lib.ListN.{length, set}
-use Rattle.laws.specs.Answers.{Answer, Outcome, accepted, refused, judged-accepted, judged-refused, leaves, outcome, leaves-as-it-was}
-use Rattle.laws.specs.Cases.{lower, lowest-joined, joined-pass}
+use Rattle.laws.specs.Answers.{Answer, Outcome, accepted, refused, leaves, outcome}
+use Rattle.laws.specs.AnswerLaws.{judged-accepted, judged-refused, leaves-as-it-was}
+use Rattle.laws.specs.Cases.{lower}
+use Rattle.laws.specs.CaseLaws.{lowest-joined, joined-pass}
 use Rattle.drawing.specs.Colour.{colour}
 use Rattle.drawing.specs.Drawing.{drawn, judgePixel, drawPixel, pixelCases}
 use Rattle.registers.specs.declared.Words.{Words}

@@ -1,7 +1,7 @@
 -- `lcd::pixel::lcd_draw_pixel` meets its contract. Assumes nothing.
 use borrow.Author.Needs.{needs}
 use mathlib.Core.Path.{sym, ap, _∙_}
-use Rattle.laws.specs.Answers.{writes-on, leaves-on}
+use Rattle.laws.specs.AnswerLaws.{writes-on, leaves-on}
 use Rattle.registers.specs.Loading.{load, loaded}
 use Rattle.lcd.specs.Pixel.{drawPixel}
 use Rattle.lcd.proofs.pixel.lcd_draw_pixel.Statement.{statement}

@@ -2,7 +2,7 @@
 use mathlib.Core.Path.{sym, ap, _∙_}
 use borrow.Author.Needs.{needs}
 use denote.Ref.{now}
-use Rattle.laws.specs.Answers.{maps, maps-refusal}
+use Rattle.laws.specs.AnswerLaws.{maps, maps-refusal}
 use Rattle.registers.specs.Loading.{loaded}
 use Rattle.panel.specs.Counts.{rate, frameMillihertz}
 use Rattle.panel.specs.Refusals.{accept}

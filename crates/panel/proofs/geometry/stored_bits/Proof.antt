@@ -2,7 +2,8 @@
 -- Assumes nothing.
 use native.Mathlib.Omega.{arith}
 use lib.Dec.{lit<}
-use Rattle.laws.specs.Answers.{judged, one-refuses}
+use Rattle.laws.specs.Answers.{judged}
+use Rattle.laws.specs.AnswerLaws.{one-refuses}
 use Rattle.laws.specs.Cases.{lowest}
 use Rattle.panel.specs.Geometry.{depthOf, storedBits, outsideModes}
 use Rattle.panel.proofs.Modes.{outside-below, outside-above, past}

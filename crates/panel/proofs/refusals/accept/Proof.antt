@@ -2,7 +2,8 @@
 use mathlib.Core.Path.{sym, ap, _∙_}
 use borrow.Author.Needs.{needs}
 use denote.Ref.{now}
-use Rattle.laws.specs.Answers.{judged, goes-on, passes-on}
+use Rattle.laws.specs.Answers.{judged}
+use Rattle.laws.specs.AnswerLaws.{goes-on, passes-on}
 use Rattle.registers.specs.Loading.{load, loaded}
 use Rattle.panel.specs.Refusals.{judge, accept}
 use Rattle.panel.proofs.refusals.accept.Statement.{statement}

@@ -1,6 +1,6 @@
 -- `panel::refusals::accept_words` meets its contract. Assumes nothing.
 use mathlib.Core.Path.{refl}
-use Rattle.laws.specs.Answers.{gives-refusal, gives-answer}
+use Rattle.laws.specs.AnswerLaws.{gives-refusal, gives-answer}
 use Rattle.panel.proofs.refusals.accept_words.Statement.{statement}
 use Rattle.panel.proofs.refusals.accept_words.Tie as tie
 

@@ -3,7 +3,7 @@
 use mathlib.Core.Path.{_≡_, sym, _∙_}
 use Prim.Native.Nat.{ℕ}
 use lib.ListN.{drop}
-use Rattle.laws.specs.Cases.{first, skips, stops, lowest-of-ascending-is-first}
+use Rattle.laws.specs.CaseLaws.{first, skips, stops, lowest-of-ascending-is-first}
 use Rattle.registers.specs.declared.Words.{Words}
 use Rattle.panel.specs.Refusals.{wordCases, judge}
 use Rattle.panel.proofs.refusals.judge.Statement.{statement}

@@ -1,7 +1,8 @@
 -- `panel::refusals::lower` meets its contract. Assumes nothing.
 use mathlib.Core.Path.{refl, sym, _∙_}
 use native.Mathlib.Omega.{arith}
-use Rattle.laws.specs.Cases.{lower, lower-min, lower-none}
+use Rattle.laws.specs.Cases.{lower}
+use Rattle.laws.specs.CaseLaws.{lower-min, lower-none}
 use Rattle.panel.proofs.refusals.lower.Statement.{statement}
 use Rattle.panel.proofs.refusals.lower.Tie as tie
 

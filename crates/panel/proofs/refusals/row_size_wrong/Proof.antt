@@ -1,7 +1,7 @@
 -- `panel::refusals::row_size_wrong` meets its contract. Assumes nothing.
 use native.Mathlib.Omega.{arith}
 use borrow.Author.Needs.{needs}
-use Rattle.laws.specs.Products.{product-le}
+use Rattle.laws.specs.ProductLaws.{product-le}
 use Rattle.registers.specs.Fields.{bppmode}
 use Rattle.panel.proofs.Modes.{stored-bits-le}
 use Rattle.panel.specs.Refusals.{rowSizeWrong}

@@ -2,7 +2,7 @@
 use mathlib.Core.Path.{ap₂}
 use Prim.Native.Nat.{_*_}
 use native.Mathlib.Omega.{arith}
-use Rattle.laws.specs.Products.{product-le}
+use Rattle.laws.specs.ProductLaws.{product-le}
 use Rattle.panel.proofs.Bounds.{line-clocks-le, frame-lines-le}
 use Rattle.panel.specs.Timing.{frameClocks}
 use Rattle.panel.proofs.timing.frame_clocks.Statement.{statement}

@@ -2,7 +2,7 @@
 use Prim.Native.Nat.{_+_, _*_}
 use native.Mathlib.Omega.{arith}
 use borrow.Author.Needs.{needs}
-use Rattle.laws.specs.Products.{product-le}
+use Rattle.laws.specs.ProductLaws.{product-le}
 use Rattle.panel.proofs.Bounds.{frame-clocks-le}
 use Rattle.panel.specs.Counts.{frameTicks}
 use Rattle.panel.proofs.timing.frame_ticks.Statement.{statement}

@@ -3,7 +3,7 @@ use mathlib.Core.Path.{_∙_}
 use native.Mathlib.Nat.{mul-one}
 use native.Mathlib.Omega.{arith}
 use lib.Bits.{and-high}
-use Rattle.laws.specs.Packing.{moved-from-top}
+use Rattle.laws.specs.PackingLaws.{moved-from-top}
 use Rattle.pixels.specs.Colours.{bits, cut24}
 use Rattle.pixels.proofs.colours.cut_24.Statement.{statement}
 use Rattle.pixels.proofs.colours.cut_24.Tie as tie

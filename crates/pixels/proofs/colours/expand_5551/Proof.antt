@@ -3,7 +3,7 @@
 use mathlib.Core.Path.{_≡_, _∙_}
 use Prim.Native.Nat.{ℕ, _+_, _*_, _^_}
 use native.Mathlib.Omega.{arith}
-use Rattle.laws.specs.Packing.{masked-moved-up, one-field, over}
+use Rattle.laws.specs.PackingLaws.{masked-moved-up, one-field, over}
 use Rattle.pixels.specs.Colours.{bits, expanded5551}
 use Rattle.pixels.proofs.colours.expand_5551.Statement.{statement}
 use Rattle.pixels.proofs.colours.expand_5551.Tie as tie

@@ -1,7 +1,7 @@
 -- `pixels::colours::expand_565` meets its contract: three fields, each moved to its lines. Assumes nothing.
 use mathlib.Core.Path.{_∙_}
 use native.Mathlib.Nat.{add-assoc}
-use Rattle.laws.specs.Packing.{masked-moved-up, one-field, over}
+use Rattle.laws.specs.PackingLaws.{masked-moved-up, one-field, over}
 use Rattle.pixels.specs.Colours.{expanded565}
 use Rattle.pixels.proofs.colours.expand_565.Statement.{statement}
 use Rattle.pixels.proofs.colours.expand_565.Tie as tie

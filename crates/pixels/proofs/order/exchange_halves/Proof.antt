@@ -1,6 +1,6 @@
 -- `pixels::order::exchange_halves` meets its contract: the upper half moved down, the lower over it. Assumes nothing.
 use native.Mathlib.Omega.{arith}
-use Rattle.laws.specs.Packing.{moved-from-top, moved-to-top, over}
+use Rattle.laws.specs.PackingLaws.{moved-from-top, moved-to-top, over}
 use Rattle.pixels.specs.Order.{exchangeHalves}
 use Rattle.pixels.proofs.order.exchange_halves.Statement.{statement}
 use Rattle.pixels.proofs.order.exchange_halves.Tie as tie

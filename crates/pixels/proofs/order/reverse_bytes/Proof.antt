@@ -2,7 +2,7 @@
 use mathlib.Core.Path.{_∙_}
 use native.Mathlib.Nat.{add-assoc}
 use native.Mathlib.Omega.{arith}
-use Rattle.laws.specs.Packing.{masked-moved-up, moved-down-masked, moved-to-top, moved-from-top, over}
+use Rattle.laws.specs.PackingLaws.{masked-moved-up, moved-down-masked, moved-to-top, moved-from-top, over}
 use Rattle.pixels.specs.Order.{reverseBytes}
 use Rattle.pixels.proofs.order.reverse_bytes.Statement.{statement}
 use Rattle.pixels.proofs.order.reverse_bytes.Tie as tie

@@ -30,7 +30,7 @@ use denote.Triple.Entry.{Args, Vals, alive, onEntry}
 use denote.Triple.Spec.{Meets, tripleOf}
 use denote.Triple.Table.{entered}
 use denote.Triple.Walked.{says, Stays, walkOf}
-use Rattle.laws.specs.Walks.{copied, freed, givenUp, all-go, ends-in, meets}
+use Rattle.laws.specs.WalkLaws.{copied, freed, givenUp, all-go, ends-in, meets}
 use Rattle.registers.specs.declared.Words.{Words}
 use Rattle.registers.proofs.Words as N
 use Rattle.registers.proofs.Words.Laws as N′

@@ -50,7 +50,7 @@ use Rattle.drawing.proofs.pixel.draw_pixel.Symbol.{name as #drawing·draw-pixel
 use Rattle.drawing.proofs.pixel.draw_pixel.Met as draw-thm
 use Rattle.reader.specs.Reading.{lookUp}
 use Rattle.reader.specs.declared.Reader.{Reader}
-use Rattle.laws.specs.Walks.{copied, freed, told, givenUp, all-go, ends-told, meets}
+use Rattle.laws.specs.WalkLaws.{copied, freed, told, givenUp, all-go, ends-told, meets}
 use Rattle.reader.proofs.Reader as T
 use Rattle.reader.proofs.Reader.Laws as T′
 use Rattle.reader.proofs.Reader.pixel.Key.{name as #reader·pixel}

@@ -1,6 +1,6 @@
 -- `Words::reserved_bit` meets its contract: the reserved spans, joined, hold a 1 where one of them does. Assumes nothing.
 use borrow.Author.Needs.{needs}
-use Rattle.laws.specs.Shifts.{some-bit, some-bit-or, some-bit-never}
+use Rattle.laws.specs.ShiftLaws.{some-bit, some-bit-or, some-bit-never}
 use Rattle.registers.specs.Fields.{reservedBit}
 use Rattle.registers.proofs.Words.reserved_bit.Statement.{statement}
 use Rattle.registers.proofs.Words.reserved_bit.Tie as tie

@@ -3,7 +3,7 @@ use borrow.Author.Needs.{needs}
 use native.Mathlib.Omega.{arith}
 use lib.Pow.{pow-pos}
 use Prim.Native.Nat.{_+_, _-_}
-use Rattle.laws.specs.Shifts.{one-shifted, shift-and-mask}
+use Rattle.laws.specs.ShiftLaws.{one-shifted, shift-and-mask}
 use Rattle.registers.proofs.bits.cut.Statement.{statement}
 use Rattle.registers.proofs.bits.cut.Tie as tie
 

@@ -5,7 +5,8 @@ use mathlib.Core.Path.{_≡_, sym, ap₂, _∙_}
 use Prim.Native.Nat.{ℕ}
 use borrow.Author.Tests.{eq-eqb, ne-eqb}
 use lib.ListN.{drop}
-use Rattle.laws.specs.Cases.{Case, _when_, lower, lowest, first, lowest-joined, several-refuse, several-pass, skips, stops, ends}
+use Rattle.laws.specs.Cases.{Case, _when_, lower, lowest}
+use Rattle.laws.specs.CaseLaws.{first, lowest-joined, several-refuse, several-pass, skips, stops, ends}
 use Rattle.drawing.specs.Drawing.{videoOff}
 use Rattle.scanout.specs.Refusals.{bankDiffers, pastFrame, viewCases, stateCases, judgeChange}
 use Rattle.scanout.proofs.refusals.judge_change.Statement.{statement}

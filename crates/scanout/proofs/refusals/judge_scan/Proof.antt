@@ -3,7 +3,7 @@ use mathlib.Core.Path.{_≡_, sym, _∙_}
 use Prim.Native.Nat.{ℕ}
 use borrow.Author.Tests.{eq-eqb, ne-eqb}
 use lib.ListN.{drop}
-use Rattle.laws.specs.Cases.{first, several-refuse, several-pass, skips, stops, ends}
+use Rattle.laws.specs.CaseLaws.{first, several-refuse, several-pass, skips, stops, ends}
 use Rattle.drawing.specs.Drawing.{videoOff, paletteWrong}
 use Rattle.scanout.specs.Refusals.{stateCases, judgeScan}
 use Rattle.scanout.proofs.Acceptance.{rest}

@@ -1,7 +1,7 @@
 -- `scanout::refusals::judge_start` meets its contract. Assumes nothing.
 use mathlib.Core.Path.{sym, _∙_}
 use borrow.Author.Tests.{eq-eqb, ne-eqb}
-use Rattle.laws.specs.Cases.{front-refuses, front-passes, stops, ends}
+use Rattle.laws.specs.CaseLaws.{front-refuses, front-passes, stops, ends}
 use Rattle.drawing.specs.Drawing.{videoOff}
 use Rattle.memory.specs.Memory.{judgeMemory}
 use Rattle.scanout.specs.Refusals.{judgeStart}

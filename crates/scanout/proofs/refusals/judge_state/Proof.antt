@@ -4,8 +4,9 @@ use mathlib.Core.Path.{_≡_, refl, sym, ap, ap₂, _∙_}
 use Prim.Native.Nat.{ℕ}
 use borrow.Author.Tests.{eqb-true}
 use lib.Dec.{eqb}
-use Rattle.laws.specs.Booleans.{both-true}
-use Rattle.laws.specs.Cases.{lower, lower-same, lowest, lowest-joined}
+use Rattle.laws.specs.BooleanLaws.{both-true}
+use Rattle.laws.specs.Cases.{lower, lowest}
+use Rattle.laws.specs.CaseLaws.{lower-same, lowest-joined}
 use Rattle.memory.specs.Memory.{memoryCases, judgeMemory}
 use Rattle.scanout.specs.Refusals.{viewCases}
 use Rattle.scanout.specs.declared.state.State.{State}

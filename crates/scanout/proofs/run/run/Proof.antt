@@ -3,7 +3,8 @@ use mathlib.Core.Path.{_≡_, refl, sym, ap, ap₂, _∙_}
 use Prim.Native.Nat.{ℕ, _+_, _<_, _≤_}
 use native.Mathlib.Omega.{arith}
 use borrow.Author.Needs.{needs}
-use Rattle.laws.specs.Answers.{Outcome, gives-refusal, gives-answer, leaves-as-it-was, leaves-written}
+use Rattle.laws.specs.Answers.{Outcome}
+use Rattle.laws.specs.AnswerLaws.{gives-refusal, gives-answer, leaves-as-it-was, leaves-written}
 use Rattle.registers.specs.Loading.{tooShort}
 use Rattle.scanout.specs.Calls.{countOf, drawn, judgeRun, run}
 use Rattle.scanout.specs.Core.{lending, running}

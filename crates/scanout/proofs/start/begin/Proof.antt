@@ -1,6 +1,6 @@
 -- `scanout::start::begin` meets its contract. Assumes nothing.
 use mathlib.Core.Path.{ap}
-use Rattle.laws.specs.Answers.{gives-refusal, gives-answer}
+use Rattle.laws.specs.AnswerLaws.{gives-refusal, gives-answer}
 use Rattle.scanout.specs.declared.state.Viewport.{Viewport}
 use Rattle.scanout.proofs.start.begin.Statement.{statement}
 use Rattle.scanout.proofs.start.begin.Tie as tie

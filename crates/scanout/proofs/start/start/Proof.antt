@@ -1,7 +1,7 @@
 -- `scanout::start::start` meets its contract. Assumes nothing.
 use mathlib.Core.Path.{sym, ap, _∙_}
 use borrow.Author.Needs.{needs}
-use Rattle.laws.specs.Answers.{goes-on, passes-on}
+use Rattle.laws.specs.AnswerLaws.{goes-on, passes-on}
 use Rattle.registers.specs.Loading.{loaded}
 use Rattle.scanout.specs.Calls.{start}
 use Rattle.scanout.proofs.start.start.Statement.{statement}

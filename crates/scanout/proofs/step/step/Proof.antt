@@ -5,7 +5,8 @@ use Prim.Native.Nat.{ℕ}
 use native.Mathlib.Omega.{arith}
 use borrow.Author.Needs.{needs}
 use lib.ListN.{length}
-use Rattle.laws.specs.Answers.{accepted, orElse, gives-refusal, gives-answer}
+use Rattle.laws.specs.Answers.{accepted, orElse}
+use Rattle.laws.specs.AnswerLaws.{gives-refusal, gives-answer}
 use Rattle.drawing.specs.Drawing.{drawn}
 use Rattle.panel.specs.Timing.{timing}
 use Rattle.registers.specs.declared.Words.{Words}

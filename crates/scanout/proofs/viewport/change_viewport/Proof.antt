@@ -1,6 +1,6 @@
 -- `scanout::viewport::change_viewport` meets its contract. Assumes nothing.
 use mathlib.Core.Path.{refl}
-use Rattle.laws.specs.Answers.{gives-refusal, gives-answer}
+use Rattle.laws.specs.AnswerLaws.{gives-refusal, gives-answer}
 use Rattle.scanout.specs.Calls.{change}
 use Rattle.scanout.proofs.viewport.change_viewport.Statement.{statement}
 use Rattle.scanout.proofs.viewport.change_viewport.Tie as tie

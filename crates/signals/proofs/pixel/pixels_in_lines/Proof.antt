@@ -3,7 +3,7 @@ use mathlib.Core.Path.{refl}
 use Prim.Native.Nat.{_-_}
 use native.Mathlib.Omega.{arith}
 use borrow.Author.Tests.{lt-ltb, le-ltb}
-use Rattle.laws.specs.Products.{product-le}
+use Rattle.laws.specs.ProductLaws.{product-le}
 use Rattle.signals.specs.Core.{pixelsInLines}
 use Rattle.signals.proofs.pixel.pixels_in_lines.Statement.{statement}
 use Rattle.signals.proofs.pixel.pixels_in_lines.Tie as tie

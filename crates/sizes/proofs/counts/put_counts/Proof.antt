@@ -4,8 +4,8 @@ use borrow.Author.Needs.{needs}
 use borrow.Author.Tests.{lt-ltb, le-ltb}
 use mathlib.Core.Path.{sym}
 use lib.ListN.{length-set}
-use Rattle.laws.specs.Answers.{leaves-as-it-was, leaves-written}
-use Rattle.laws.specs.Cases.{lowest-of-ascending-is-first, stops, ends}
+use Rattle.laws.specs.AnswerLaws.{leaves-as-it-was, leaves-written}
+use Rattle.laws.specs.CaseLaws.{lowest-of-ascending-is-first, stops, ends}
 use Rattle.laws.specs.Storing.{stores}
 use Rattle.registers.specs.Loading.{tooShort}
 use Rattle.sizes.specs.Counts.{putCounts}

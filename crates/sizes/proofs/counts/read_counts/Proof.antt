@@ -1,7 +1,7 @@
 -- `sizes::counts::read_counts` meets its contract. Assumes nothing.
 use mathlib.Core.Path.{sym, ap, _∙_}
 use borrow.Author.Needs.{needs}
-use Rattle.laws.specs.Answers.{writes-on, leaves-on}
+use Rattle.laws.specs.AnswerLaws.{writes-on, leaves-on}
 use Rattle.sizes.specs.Counts.{readCounts}
 use Rattle.registers.specs.Loading.{loaded}
 use Rattle.sizes.proofs.counts.read_counts.Statement.{statement}

@@ -1,12 +1,12 @@
--- Fields of a number, cut out by masks, moved by shifts and joined by `|` from the lowest on, as the sum that they are. Widths and
--- places are numerals at each use, so the side conditions compute. Assumes nothing.
+-- Laws of the fields of a number, cut out by masks, moved by shifts and joined by `|` from the lowest on, as the sum that they are.
+-- Widths and places are numerals at each use, so the side conditions compute. A reader need not believe them. Assumes nothing.
 use mathlib.Core.Path.{_≡_, sym, ap, _∙_}
 use Prim.Native.Nat.{ℕ, _+_, _-_, _*_, _/_, _%_, _^_, _<_}
 use native.Mathlib.Nat.{add-zero, mul-assoc, mul-mod-left, mod-lt, lt-of-lt-of-le}
 use lib.Bits.{bitAnd, bitOr, and-high, or-shifted-r}
 use lib.Dec.{T, leb, lit≤}
 use lib.Pow.{pow-pos, pow-mono, pow-add, shl-lt, shl-exact, shl-shr, shr-shr, shr-mod, mod-pow-add}
-use Rattle.laws.specs.Shifts.{joined-lt}
+use Rattle.laws.specs.ShiftLaws.{joined-lt}
 
 field-lt : (n width : ℕ) → n % 2 ^ width < 2 ^ width
 field-lt n width = mod-lt n (pow-pos width)

@@ -1,4 +1,4 @@
--- Bounds of products, with every number written out so that `omega` can take them. Assumes nothing.
+-- Laws of products: bounds, with every number written out so that `omega` can take them. A reader need not believe them. Assumes nothing.
 use Prim.Native.Nat.{ℕ, _*_, _≤_}
 use native.Mathlib.Nat.{mul-le-mul}
 

@@ -1,4 +1,4 @@
--- Shifts and masks of 32-bit numbers as arithmetic. Assumes nothing.
+-- Laws of shifts and masks of 32-bit numbers as arithmetic. A reader need not believe them. Assumes nothing.
 use mathlib.Core.Bool.{Bool, true, false, _||_}
 use mathlib.Core.Path.{_≡_, refl, ap, ap₂, sym, _∙_}
 use Prim.Native.Nat.{ℕ, zero, suc, _+_, _-_, _*_, _/_, _%_, _^_, _<_, _≤_}
@@ -9,7 +9,7 @@ use lib.Arith.{digits-lt}
 use lib.Bits.{bitAnd, bitOr, and-mask, and-le-r, or-zero-l, or-add-and, or-shifted}
 use lib.Dec.{lit<, ltb, leb}
 use lib.Pow.{shl-exact, pow-pos, pow-add}
-use Rattle.laws.specs.Booleans.{or-never}
+use Rattle.laws.specs.BooleanLaws.{or-never}
 
 -- a 1 shifted to bit k
 pub one-shifted : (k : ℕ) → k < 32 → (1 * 2 ^ k) % 2 ^ 32 ≡ 2 ^ k

@@ -1,5 +1,5 @@
--- The laws of packed words: values packed and read, a word read and packed, each by one induction over the layout (document 01,
--- "The nine words"; demand 2). Assumes nothing.
+-- Laws of packed words: values that fit, packed and read, a word read and packed, each by one induction over the layout (document 01,
+-- "The nine words"; demand 2). A reader need not believe them. Assumes nothing.
 use mathlib.Core.Bool.{false, _&&_}
 use mathlib.Core.List.{List, [], _∷_}
 use mathlib.Core.Path.{_≡_, refl, sym, ap, ap₂, _∙_}
@@ -11,9 +11,18 @@ use lib.Arith.{digits-lt, le-zero}
 use lib.Dec.{T, ltb, leb, eqb, leb→le, eqb→eq}
 use lib.ListN.{length}
 use lib.Pow.{pow-pos, pow-add, high, low, mod-pow-add}
-use Rattle.laws.specs.Booleans.{and-left, and-right, or-false-left, or-false-right, or-false}
-use Rattle.laws.specs.BitFields.{Access, Free, ReadOnly, Reserved, Span, spanWidth, field, tiles, reservedSet, values, freeSpans}
-use Rattle.laws.specs.BitFields.{pack, tooWide, Fit, readOnlyBits, ifReserved, ifReadOnly, listed, next, rest}
+use Rattle.laws.specs.BooleanLaws.{and-left, and-right, or-false-left, or-false-right, or-false}
+use Rattle.laws.specs.BitFields.{Access, Free, ReadOnly, Reserved, Span, spanWidth, field, tiles, reservedSet, values}
+use Rattle.laws.specs.BitFields.{pack, tooWide, readOnlyBits, ifReserved, ifReadOnly, listed, nextValue, otherValues}
+
+-- how many spans are free
+abbrev pub freeSpans : List Span → ℕ
+freeSpans ps = length (values ps 0)
+
+-- each value fits its span
+abbrev pub Fit : List Span → List ℕ → Type 0
+Fit [] vs = Unit
+Fit (p ∷ ps) vs = (nextValue (p .access) vs < 2 ^ spanWidth p) × Fit ps (otherValues (p .access) vs)
 
 -- ---- a span of a layout that tiles
 
@@ -40,50 +49,50 @@ module _ (n : ℕ) (p : Span) (ps : List Span) (t : T (tiles n (p ∷ ps))) wher
 -- no value is too wide: each fits
 pub all-fit : (ps : List Span) (vs : List ℕ) → tooWide ps vs ≡ false → Fit ps vs
 all-fit [] vs f = tt
-all-fit (p ∷ ps) vs f = (leb-false (2 ^ spanWidth p) (next (p .access) vs) here, all-fit ps (rest (p .access) vs) others)
+all-fit (p ∷ ps) vs f = (leb-false (2 ^ spanWidth p) (nextValue (p .access) vs) here, all-fit ps (otherValues (p .access) vs) others)
   where
-    here : leb (2 ^ spanWidth p) (next (p .access) vs) ≡ false
-    here = or-false-left (leb (2 ^ spanWidth p) (next (p .access) vs)) (tooWide ps (rest (p .access) vs)) f
+    here : leb (2 ^ spanWidth p) (nextValue (p .access) vs) ≡ false
+    here = or-false-left (leb (2 ^ spanWidth p) (nextValue (p .access) vs)) (tooWide ps (otherValues (p .access) vs)) f
 
-    others : tooWide ps (rest (p .access) vs) ≡ false
-    others = or-false-right (leb (2 ^ spanWidth p) (next (p .access) vs)) (tooWide ps (rest (p .access) vs)) f
+    others : tooWide ps (otherValues (p .access) vs) ≡ false
+    others = or-false-right (leb (2 ^ spanWidth p) (nextValue (p .access) vs)) (tooWide ps (otherValues (p .access) vs)) f
 
 pack-lt : (n : ℕ) (ps : List Span) (vs : List ℕ) → T (tiles n ps) → Fit ps vs → pack ps vs < 2 ^ n
 pack-lt n [] vs t f = pow-pos n
 pack-lt n (p ∷ ps) vs t f =
     rw (reaches n p ps t, pow-add 2 (spanWidth p) (p .low))
-    (digits-lt (f .0) (pack-lt (p .low) ps (rest (p .access) vs) (below n p ps t) (f .1)))
+    (digits-lt (f .0) (pack-lt (p .low) ps (otherValues (p .access) vs) (below n p ps t) (f .1)))
 
 -- ---- a packed word, whatever number q stands in the bits above n
 
 module _ (q n : ℕ) (p : Span) (ps : List Span) (vs : List ℕ) (t : T (tiles n (p ∷ ps))) (f : Fit (p ∷ ps) vs) where
   above : ℕ
-  above = q * 2 ^ spanWidth p + next (p .access) vs
+  above = q * 2 ^ spanWidth p + nextValue (p .access) vs
 
   -- the word is what stands above the span, with the span's value, and what is packed below it
-  regrouped : q * 2 ^ n + pack (p ∷ ps) vs ≡ above * 2 ^ p .low + pack ps (rest (p .access) vs)
+  regrouped : q * 2 ^ n + pack (p ∷ ps) vs ≡ above * 2 ^ p .low + pack ps (otherValues (p .access) vs)
   unfolding above
   regrouped = rw (reaches n p ps t, pow-add 2 (spanWidth p) (p .low), add-mul, mul-assoc) (omega arith)
 
   -- the span's value stands in its field
-  field-packed : field p (q * 2 ^ n + pack (p ∷ ps) vs) ≡ next (p .access) vs
+  field-packed : field p (q * 2 ^ n + pack (p ∷ ps) vs) ≡ nextValue (p .access) vs
   unfolding above
   field-packed =
       ap (field p) regrouped
       ∙ ap (λ (x : ℕ). x % 2 ^ spanWidth p)
-      (high above (p .low) (pack-lt (p .low) ps (rest (p .access) vs) (below n p ps t) (f .1)))
+      (high above (p .low) (pack-lt (p .low) ps (otherValues (p .access) vs) (below n p ps t) (f .1)))
       ∙ low q (spanWidth p) (f .0)
 
 -- as many values as free spans: each free span takes one
 listed-next : (a : Access) (vs : List ℕ) (v : ℕ) (xs : List ℕ) → length vs ≡ length (listed a v xs)
-    → listed a (next a vs) (rest a vs) ≡ vs
+    → listed a (nextValue a vs) (otherValues a vs) ≡ vs
 listed-next Free [] v xs l = absurd (omega arith)
 listed-next Free (x ∷ vs) v xs l = refl
 listed-next ReadOnly vs v xs l = refl
 listed-next Reserved vs v xs l = refl
 
 length-rest : (a : Access) (vs : List ℕ) (v : ℕ) (xs : List ℕ) → length vs ≡ length (listed a v xs)
-    → length (rest a vs) ≡ length xs
+    → length (otherValues a vs) ≡ length xs
 length-rest Free [] v xs l = absurd (omega arith)
 length-rest Free (x ∷ vs) v xs l = omega arith
 length-rest ReadOnly vs v xs l = l
@@ -99,11 +108,11 @@ values-packed q n [] vs t f l = no-values vs l
 values-packed q n (p ∷ ps) vs t f l =
     ap₂ (listed (p .access)) (field-packed q n p ps vs t f)
     (ap (values ps) (regrouped q n p ps vs t f)
-    ∙ values-packed (above q n p ps vs t f) (p .low) ps (rest (p .access) vs) (below n p ps t) (f .1)
+    ∙ values-packed (above q n p ps vs t f) (p .low) ps (otherValues (p .access) vs) (below n p ps t) (f .1)
     (length-rest (p .access) vs (field p 0) (values ps 0) l))
     ∙ listed-next (p .access) vs (field p 0) (values ps 0) l
 
-reserved-next : (a : Access) (vs : List ℕ) → ifReserved a (ltb 0 (next a vs)) ≡ false
+reserved-next : (a : Access) (vs : List ℕ) → ifReserved a (ltb 0 (nextValue a vs)) ≡ false
 reserved-next Free vs = refl
 reserved-next ReadOnly vs = refl
 reserved-next Reserved vs = refl
@@ -114,17 +123,17 @@ reserved-packed q n [] vs t f = refl
 reserved-packed q n (p ∷ ps) vs t f =
     or-false
     (ap (reservedSet ps) (regrouped q n p ps vs t f)
-    ∙ reserved-packed (above q n p ps vs t f) (p .low) ps (rest (p .access) vs) (below n p ps t) (f .1))
+    ∙ reserved-packed (above q n p ps vs t f) (p .low) ps (otherValues (p .access) vs) (below n p ps t) (f .1))
     (ap (λ (v : ℕ). ifReserved (p .access) (ltb 0 v)) (field-packed q n p ps vs t f) ∙ reserved-next (p .access) vs)
 
 -- ---- a word's own values
 
-next-listed : (a : Access) (k v : ℕ) (vs : List ℕ) → v < 2 ^ k → leb (2 ^ k) (next a (listed a v vs)) ≡ false
+next-listed : (a : Access) (k v : ℕ) (vs : List ℕ) → v < 2 ^ k → leb (2 ^ k) (nextValue a (listed a v vs)) ≡ false
 next-listed Free k v vs h = lt-leb (2 ^ k) v h
 next-listed ReadOnly k v vs h = lt-leb (2 ^ k) 0 (pow-pos k)
 next-listed Reserved k v vs h = lt-leb (2 ^ k) 0 (pow-pos k)
 
-rest-listed : (a : Access) (v : ℕ) (vs : List ℕ) → rest a (listed a v vs) ≡ vs
+rest-listed : (a : Access) (v : ℕ) (vs : List ℕ) → otherValues a (listed a v vs) ≡ vs
 rest-listed Free v vs = refl
 rest-listed ReadOnly v vs = refl
 rest-listed Reserved v vs = refl
@@ -139,7 +148,7 @@ values-narrow (p ∷ ps) w =
 
 -- a span is free, read-only, or reserved and then 0
 split-by-access : (a : Access) (v m : ℕ) (vs : List ℕ) → ifReserved a (ltb 0 v) ≡ false
-    → next a (listed a v vs) * m + ifReadOnly a v * m ≡ v * m
+    → nextValue a (listed a v vs) * m + ifReadOnly a v * m ≡ v * m
 split-by-access Free v m vs r = omega arith
 split-by-access ReadOnly v m vs r = omega arith
 split-by-access Reserved v m vs r = omega (arith, ap (λ (x : ℕ). x * m) (le-zero (ltb-false 0 v r)))

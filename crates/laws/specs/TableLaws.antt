@@ -1,11 +1,11 @@
--- A rule of a table, proved at all of its entries by one test that antt computes. Assumes nothing.
+-- A rule of a table, proved at all of its entries by one test that antt computes. A reader need not believe it. Assumes nothing.
 use mathlib.Core.Bool.{Bool, true, _&&_}
 use mathlib.Core.List.{List, [], _∷_}
 use Prim.Native.Nat.{ℕ, zero, suc, _<_}
 use native.Mathlib.Nat.{le-of-suc-le-suc, not-suc-le-zero}
 use lib.Dec.{T}
 use lib.ListN.{length, getD}
-use Rattle.laws.specs.Booleans.{and-left, and-right}
+use Rattle.laws.specs.BooleanLaws.{and-left, and-right}
 
 -- the test passes at each entry
 abbrev pub every : (ℕ → Bool) → List ℕ → Bool
