@@ -4,11 +4,15 @@ use Rattle.fields.proofs.unpacking.lcdcon1_of.Tie as tie
 
 returns : tie.Need-returns
 returns c =
+    let bppmode = c .before in
+    let pnrmode = bppmode .before in
+    let mmode = pnrmode .before in
+    let clkval = mmode .before in
     rw (
-      c .before .before .before .before .clkval .ensures,
-      c .before .before .before .mmode .ensures,
-      c .before .before .pnrmode .ensures,
-      c .before .bppmode .ensures,
+      clkval .clkval .ensures,
+      mmode .mmode .ensures,
+      pnrmode .pnrmode .ensures,
+      bppmode .bppmode .ensures,
       c .envid .ensures,
     )
 

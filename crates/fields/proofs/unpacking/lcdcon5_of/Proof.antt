@@ -4,19 +4,31 @@ use Rattle.fields.proofs.unpacking.lcdcon5_of.Tie as tie
 
 returns : tie.Need-returns
 returns c =
+    let bswp = c .before in
+    let enlend = bswp .before in
+    let pwren = enlend .before in
+    let invlend = pwren .before in
+    let invpwren = invlend .before in
+    let invvden = invpwren .before in
+    let invvd = invvden .before in
+    let invvframe = invvd .before in
+    let invvline = invvframe .before in
+    let invvclk = invvline .before in
+    let frm565 = invvclk .before in
+    let bpp24bl = frm565 .before in
     rw (
-      c .before .before .before .before .before .before .before .before .before .before .before .before .bpp24bl .ensures,
-      c .before .before .before .before .before .before .before .before .before .before .before .frm565 .ensures,
-      c .before .before .before .before .before .before .before .before .before .before .invvclk .ensures,
-      c .before .before .before .before .before .before .before .before .before .invvline .ensures,
-      c .before .before .before .before .before .before .before .before .invvframe .ensures,
-      c .before .before .before .before .before .before .before .invvd .ensures,
-      c .before .before .before .before .before .before .invvden .ensures,
-      c .before .before .before .before .before .invpwren .ensures,
-      c .before .before .before .before .invlend .ensures,
-      c .before .before .before .pwren .ensures,
-      c .before .before .enlend .ensures,
-      c .before .bswp .ensures,
+      bpp24bl .bpp24bl .ensures,
+      frm565 .frm565 .ensures,
+      invvclk .invvclk .ensures,
+      invvline .invvline .ensures,
+      invvframe .invvframe .ensures,
+      invvd .invvd .ensures,
+      invvden .invvden .ensures,
+      invpwren .invpwren .ensures,
+      invlend .invlend .ensures,
+      pwren .pwren .ensures,
+      enlend .enlend .ensures,
+      bswp .bswp .ensures,
       c .hwswp .ensures,
     )
 

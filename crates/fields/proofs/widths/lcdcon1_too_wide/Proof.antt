@@ -5,12 +5,16 @@ use Rattle.fields.proofs.widths.lcdcon1_too_wide.Tie as tie
 
 returns : tie.Need-returns
 returns c =
+    let mmode = c .before in
+    let pnrmode = mmode .before in
+    let bppmode = pnrmode .before in
+    let envid = bppmode .before in
     rw (
       c .wider5 .ensures,
-      c .before .wider4 .ensures,
-      c .before .before .wider3 .ensures,
-      c .before .before .before .wider2 .ensures,
-      c .before .before .before .before .wider .ensures,
+      mmode .wider4 .ensures,
+      pnrmode .wider3 .ensures,
+      bppmode .wider2 .ensures,
+      envid .wider .ensures,
     )
 
 pub lcdcon1-too-wide-spec : {M : Type 1} → statement M

@@ -5,20 +5,32 @@ use Rattle.fields.proofs.widths.lcdcon5_too_wide.Tie as tie
 
 returns : tie.Need-returns
 returns c =
+    let frm565 = c .before in
+    let invvclk = frm565 .before in
+    let invvline = invvclk .before in
+    let invvframe = invvline .before in
+    let invvd = invvframe .before in
+    let invvden = invvd .before in
+    let invpwren = invvden .before in
+    let invlend = invpwren .before in
+    let pwren = invlend .before in
+    let enlend = pwren .before in
+    let bswp = enlend .before in
+    let hwswp = bswp .before in
     rw (
       c .wider13 .ensures,
-      c .before .wider12 .ensures,
-      c .before .before .wider11 .ensures,
-      c .before .before .before .wider10 .ensures,
-      c .before .before .before .before .wider9 .ensures,
-      c .before .before .before .before .before .wider8 .ensures,
-      c .before .before .before .before .before .before .wider7 .ensures,
-      c .before .before .before .before .before .before .before .wider6 .ensures,
-      c .before .before .before .before .before .before .before .before .wider5 .ensures,
-      c .before .before .before .before .before .before .before .before .before .wider4 .ensures,
-      c .before .before .before .before .before .before .before .before .before .before .wider3 .ensures,
-      c .before .before .before .before .before .before .before .before .before .before .before .wider2 .ensures,
-      c .before .before .before .before .before .before .before .before .before .before .before .before .wider .ensures,
+      frm565 .wider12 .ensures,
+      invvclk .wider11 .ensures,
+      invvline .wider10 .ensures,
+      invvframe .wider9 .ensures,
+      invvd .wider8 .ensures,
+      invvden .wider7 .ensures,
+      invpwren .wider6 .ensures,
+      invlend .wider5 .ensures,
+      pwren .wider4 .ensures,
+      enlend .wider3 .ensures,
+      bswp .wider2 .ensures,
+      hwswp .wider .ensures,
     )
 
 pub lcdcon5-too-wide-spec : {M : Type 1} → statement M

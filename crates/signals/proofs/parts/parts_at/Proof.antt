@@ -16,38 +16,36 @@ div-part-at c =
 
 rem-part-at : tie.Need-rem-part-at
 rem-part-at c =
-    let first = c .before .before .before .before .before .before .before in
+    let line = c .before .before .before in
+    let first = line .before .before .before .before in
     omega (arith, line-clocks-ge (first .before .args .w), first .line-clocks .ensures)
 
 line-is : (c : tie.After-part-at)
-    → c .part-at .result
-    ≡ linePart (timing (c .before .before .before .before .before .args .w)) (c .before .before .before .before .before .args .position)
+    → let args = c .before .before .before .before .before .args in c .part-at .result ≡ linePart (timing (args .w)) (args .position)
 unfolding linePart
 line-is c =
-    rw (
-      c .before .before .before .before .line-clocks .ensures,
-      c .before .before .before .vspw .ensures,
-      c .before .before .lines-before .ensures,
-      c .before .height .ensures,
-    ) at (c .part-at .ensures)
+    let vspw = c .before .before .before in
+    rw (vspw .before .line-clocks .ensures, vspw .vspw .ensures, c .before .before .lines-before .ensures, c .before .height .ensures)
+    at (c .part-at .ensures)
 
 clock-is : (c : tie.After-part-at2)
-    → c .part-at2 .result
-    ≡ clockPart (timing (c .before .before .before .before .before .before .before .before .before .args .w)) (c .before .before .before .before .before .before .before .before .before .args .position)
+    → let line = c .before .before .before .before in
+    let args = line .before .before .before .before .before .args in c .part-at2 .result ≡ clockPart (timing (args .w)) (args .position)
 unfolding clockPart
 clock-is c =
+    let hspw = c .before .before .before in
+    let line = hspw .before in
     rw (
-      c .before .before .before .before .before .before .before .before .line-clocks .ensures,
-      c .before .before .before .hspw .ensures,
+      line .before .before .before .before .line-clocks .ensures,
+      hspw .hspw .ensures,
       c .before .before .clocks-before .ensures,
       c .before .width .ensures,
     ) at (c .part-at2 .ensures)
 
 returns : tie.Need-returns
 returns c =
-    ap₂ (λ (line clock : Part). record { line = line; clock = clock })
-    (line-is (c .before .before .before .before))
-    (clock-is c)
+    let line = c .before .before .before .before in
+    ap₂ (λ (line clock : Part). record { line = line; clock = clock }) (line-is line) (clock-is c)
 
 pub parts-at-spec : {M : Type 1} → statement M
 parts-at-spec =

@@ -21,16 +21,19 @@ pixels-in-lines-requires c κs = (omega arith, omega arith, omega arith)
 returns : tie.Need-returns
 unfolding pixelsByLines
 returns c =
-    let a = c .before .before .before .before .before .before .before .args in
+    let lines = c .before .before in
+    let columns = lines .before in
+    let width = columns .before .before in
+    let args = width .before .before .args in
     rw (
-      c .before .before .before .columns-before .ensures,
-      c .before .before .before .before .before .before .line-clocks .ensures,
-      c .before .before .before .before .before .width .ensures,
-      c .before .before .before .before .clocks-before .ensures,
-      c .before .before .lines-before .ensures,
+      columns .columns-before .ensures,
+      width .before .line-clocks .ensures,
+      width .width .ensures,
+      columns .before .clocks-before .ensures,
+      lines .lines-before .ensures,
       c .before .height .ensures,
     ) at (c .pixels-in-lines .ensures)
-    ∙ sym (counted-by-lines (timing (a .w)) (a .position))
+    ∙ sym (counted-by-lines (timing (args .w)) (args .position))
 
 pub pixels-before-spec : {M : Type 1} → statement M
 pixels-before-spec =

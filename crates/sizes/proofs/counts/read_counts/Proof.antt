@@ -10,9 +10,10 @@ use Rattle.sizes.proofs.counts.read_counts.Tie as tie
 returns : tie.Need-returns
 unfolding readCounts
 returns c =
-    let nine = c .before .before .before .before .before .w .given in
-    writes-on _ _ _ (nine .0 .0) _
-    (sym (ap loaded (nine .1)) ∙ c .before .before .before .before .before .before .before .accept .ensures) (c .before .before .put-counts .ensures)
+    let put = c .before .before in
+    let known = put .before .before .before in
+    writes-on _ _ _ (known .w .given .0 .0) _ (sym (ap loaded (known .w .given .1)) ∙ known .before .before .accept .ensures)
+    (put .put-counts .ensures)
 
 returns-2 : tie.Need-returns-2
 unfolding readCounts
