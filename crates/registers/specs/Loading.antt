@@ -58,8 +58,10 @@ shortOfNine s = tooShort (length s) 9
 unfoldable pub load : List ℕ → Answer Words
 load s = judged (lowest (10 when shortOfNine s ∷ [])) (nineWords s)
 
--- numbers to the first entries of a slice, the others stay; 10: the slice has fewer
+-- a slice whose first entries are these numbers; the others stay
+abbrev pub begunWith : List ℕ → List ℕ → List ℕ
+begunWith numbers out = stores (λ i. getD numbers i 0) 0 (length numbers) out
+
+-- numbers put to a slice; 10: it has fewer entries
 unfoldable pub putEntries : List ℕ → List ℕ → Outcome
-putEntries numbers out =
-    outcome (lowest (10 when tooShort (length out) (length numbers) ∷ [])) out
-    (stores (λ i. getD numbers i 0) 0 (length numbers) out)
+putEntries numbers out = outcome (lowest (10 when tooShort (length out) (length numbers) ∷ [])) out (begunWith numbers out)
