@@ -8,6 +8,8 @@ archive = target/staticlib/liblcd.a
 lcd_crates := lcd $(shell sed -n 's/^lcd://p' crates.txt)
 lcd_sources := crates.txt $(shell find $(lcd_crates:%=crates/%) -name '*.rt' -o -name '*.antt')
 shot := $(patsubst host/%.c,target/host/%.o,$(wildcard host/shot/*.c) host/lcd_refusals.c)
+beside := $(addprefix host/,differential.c inputs.c words.c slices.c chance.c model.c)
+beside_headers := $(addprefix host/,calls.h inputs.h words.h slices.h chance.h model.h lcd.h)
 programs = $(addprefix target/host/,lcdshot example benchmark differential differential-sanitized)
 
 all: $(programs)
@@ -39,12 +41,14 @@ target/host/lcdshot-sanitized: $(wildcard host/shot/*.[ch]) host/lcd_refusals.c 
 target/host/example target/host/benchmark: target/host/%: target/host/%.o $(archive)
 	$(CC) -o $@ $< $(archive)
 
-target/host/differential: target/host/differential.o target/host/model.o $(archive)
+target/host/differential: $(beside:host/%.c=target/host/%.o) $(archive)
 	$(CC) -o $@ $^
 
-target/host/differential-sanitized: host/differential.c host/model.c host/model.h host/lcd.h $(archive)
+# every slice in a block of exactly its size, for what watches memory
+target/host/differential-exact: SANITIZE =
+target/host/differential-exact target/host/differential-sanitized: $(beside) $(beside_headers) $(archive)
 	@mkdir -p $(@D)
-	$(CC) $(CFLAGS) $(SANITIZE) -o $@ host/differential.c host/model.c $(archive)
+	$(CC) $(CFLAGS) $(SANITIZE) -DEXACT -o $@ $(beside) $(archive)
 
 -include $(wildcard target/host/*.d target/host/shot/*.d)
 

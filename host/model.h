@@ -6,6 +6,7 @@
 
 #include <stddef.h>
 #include <stdint.h>
+#include "calls.h"
 #include "lcd.h"
 
 enum { MODEL_WORDS = 9 };
@@ -23,37 +24,11 @@ extern const struct model_field model_fields[MODEL_FIELDS];
 /* The greatest number that fits a field of n bits: 2^n - 1. */
 uint64_t model_limit(int name);
 
-uint32_t model_check(const uint32_t *words, size_t words_len, uint32_t window_start, const uint32_t *video, size_t video_len);
-
-uint32_t model_counts(const uint32_t *words, size_t words_len, uint32_t hclk, uint64_t *counts, size_t counts_len);
-
-uint32_t model_draw_pixel(const uint32_t *words, size_t words_len, uint32_t window_start, const uint32_t *video, size_t video_len,
-                          const uint16_t *palette, size_t palette_len, uint32_t row, uint32_t column, uint32_t *out,
-                          size_t out_len);
-
-uint32_t model_draw_row(const uint32_t *words, size_t words_len, uint32_t window_start, const uint32_t *video, size_t video_len,
-                        const uint16_t *palette, size_t palette_len, uint32_t row, uint32_t *out, size_t out_len);
-
-uint32_t model_draw_picture(const uint32_t *words, size_t words_len, uint32_t window_start, const uint32_t *video,
-                            size_t video_len, const uint16_t *palette, size_t palette_len, uint32_t *picture,
-                            size_t picture_len);
-
-uint32_t model_read_fields(const uint32_t *words, size_t words_len, uint32_t *fields, size_t fields_len);
-
-uint32_t model_write_fields(const uint32_t *fields, size_t fields_len, uint32_t *words, size_t words_len);
-
-uint32_t model_read_sizes(const uint32_t *words, size_t words_len, uint32_t *sizes, size_t sizes_len);
-
-uint32_t model_start(const uint32_t *words, size_t words_len, uint32_t window_start, const uint32_t *video, size_t video_len,
-                     uint32_t *scan, size_t scan_len);
-
-uint32_t model_step(uint32_t *scan, size_t scan_len, const uint32_t *video, size_t video_len, const uint16_t *palette,
-                    size_t palette_len);
-
-uint32_t model_run(uint32_t *scan, size_t scan_len, const uint32_t *video, size_t video_len, const uint16_t *palette,
-                   size_t palette_len, uint64_t clocks, uint32_t *picture, size_t picture_len);
-
-uint32_t model_change_viewport(uint32_t *scan, size_t scan_len, const uint32_t *video, size_t video_len, uint32_t lcdsaddr1,
-                               uint32_t lcdsaddr2);
+/* The twins: lcd_check's is model_check, and so on. */
+#define TWIN(name, ...) __typeof__(lcd_##name) model_##name;
+#define NOTHING(kind)
+CALLS(TWIN, NOTHING, NOTHING, NOTHING)
+#undef TWIN
+#undef NOTHING
 
 #endif

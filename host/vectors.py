@@ -8,6 +8,9 @@ A frame is the list of all its clocks, put together part by part; clocks are num
 frame is found in the schedule of the accepted ones.
 The answers of the group `hand` also stand below as literals, as the paper gives them or as worked out by hand; where the two
 differ, the script stops.
+
+The vectors are frozen. What C can call is tested by host/differential from now on; here a group grows only for what C cannot reach
+(the reader, the step in place), and an answer changes only where a request changes it.
 """
 import os
 import re

@@ -1,0 +1,35 @@
+/* The calls of lcd.h, a row each. From these rows model.h declares a twin for each call, and differential.c holds the two against each
+ * other.
+ *
+ *     CALL(name, times, numbers, arguments)
+ *
+ * name       of lcd_NAME in the archive and model_NAME in the model
+ * times      how often a case makes the call, and its share of a list of calls, where it starts a scan or goes on with one
+ * numbers    those that it can give: UP_TO(n) is 0 to n, NUMBER(n) is n
+ * arguments  in their order, each of a kind of inputs.h: READ is a slice that the call reads, WRITE one that it writes, VALUE a number
+ *
+ * A further call is a row here and its twin in model.c. Where it takes what no other call does, that is a further kind: a name in
+ * inputs.h, and in inputs.c a row of `kinds` with the function that makes it. */
+#ifndef CALLS_H
+#define CALLS_H
+
+#define UP_TO(n) ((2u << (n)) - 1)
+#define NUMBER(n) (1u << (n))
+
+#define CALLS(CALL, READ, WRITE, VALUE)                                                                                            \
+    CALL(check, 1, UP_TO(8) | NUMBER(10), READ(WORDS), VALUE(WINDOW_START), READ(VIDEO))                                           \
+    CALL(counts, 1, UP_TO(7) | NUMBER(10), READ(TIMED_WORDS), VALUE(HCLK), WRITE(COUNTS))                                          \
+    CALL(draw_pixel, 1, UP_TO(11), READ(WORDS), VALUE(WINDOW_START), READ(VIDEO), READ(PALETTE), VALUE(ROW), VALUE(COLUMN),        \
+         WRITE(PIXEL_COLOUR))                                                                                                      \
+    CALL(draw_row, 1, UP_TO(11), READ(WORDS), VALUE(WINDOW_START), READ(VIDEO), READ(PALETTE), VALUE(ROW), WRITE(ROW_COLOURS))     \
+    CALL(draw_picture, 1, UP_TO(10), READ(WORDS), VALUE(WINDOW_START), READ(VIDEO), READ(PALETTE), WRITE(PICTURE))                 \
+    CALL(read_fields, 1, UP_TO(1) | NUMBER(10), READ(ANY_WORDS), WRITE(FIELDS_READ))                                               \
+    CALL(write_fields, 1, NUMBER(0) | NUMBER(10) | NUMBER(12), READ(FIELDS), WRITE(WORDS_WRITTEN))                                 \
+    CALL(read_sizes, 1, UP_TO(1) | NUMBER(10), READ(ANY_WORDS), WRITE(SIZES))                                                      \
+    CALL(start, 1, UP_TO(10), READ(WORDS), VALUE(WINDOW_START), READ(VIDEO), WRITE(NEW_SCAN))                                      \
+    CALL(step, 4, UP_TO(10) | NUMBER(13) | NUMBER(15), WRITE(SCAN), READ(VIDEO), READ(PALETTE))                                    \
+    CALL(run, 3, UP_TO(10) | NUMBER(13) | NUMBER(15), WRITE(SCAN), READ(VIDEO), READ(PALETTE), VALUE(CLOCKS), WRITE(PICTURE))      \
+    CALL(change_viewport, 2, UP_TO(10) | NUMBER(13) | NUMBER(15), WRITE(SCAN), READ(VIDEO), VALUE(NEW_LCDSADDR1),                  \
+         VALUE(NEW_LCDSADDR2))
+
+#endif
