@@ -8,8 +8,8 @@ archive = target/staticlib/liblcd.a
 lcd_crates := lcd $(shell sed -n 's/^lcd://p' crates.txt)
 lcd_sources := crates.txt $(shell find $(lcd_crates:%=crates/%) -name '*.rt' -o -name '*.antt')
 shot := $(patsubst host/%.c,target/host/%.o,$(wildcard host/shot/*.c) host/lcd_refusals.c)
-beside := $(addprefix host/,differential.c inputs.c words.c slices.c chance.c model.c)
-beside_headers := $(addprefix host/,calls.h inputs.h words.h slices.h chance.h model.h lcd.h)
+beside := $(addprefix host/,differential.c inputs.c words.c slices.c chance.c model.c rules.c)
+beside_headers := $(addprefix host/,calls.h inputs.h words.h slices.h chance.h model.h rules.h lcd.h)
 programs = $(addprefix target/host/,lcdshot example benchmark differential differential-sanitized)
 
 all: $(programs)

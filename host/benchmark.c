@@ -11,7 +11,7 @@
 #include <time.h>
 #include "lcd.h"
 
-enum { ROUNDS = 400, START = 0x30000000 };
+enum { ROUNDS = 400, START = 0x30000000, TPALEN = 1 << 24, TPALVAL = 0x123456 };
 
 static uint16_t palette[256];
 static uint32_t *video, *ours, *theirs;
@@ -77,31 +77,33 @@ DIRECT16(c16i, keep, c5551)
 DIRECT16(c16is, swap_halves, c5551)
 DIRECT24(c24, in[i] & 0xffffff)
 DIRECT24(c24b, in[i] >> 8)
+DIRECT24(cfill, ((void)in, (void)i, TPALVAL))
 
 /* ---- the modes */
 
 struct mode {
     const char *name;
-    unsigned bppmode, bits, lcdcon5;
+    unsigned bppmode, bits, lcdcon5, tpal;
     void (*row)(const uint32_t *, const uint16_t *, size_t, uint32_t *);
     uint32_t (*pixel)(const uint32_t *, const uint16_t *, size_t);
 };
 
 static const struct mode modes[] = {
-    {"1 bit, 5:6:5", 8, 1, 0x800, c1, c1_pixel},
-    {"1 bit, 5:5:5:1, BSWP", 8, 1, 0x2, c1s, c1s_pixel},
-    {"2 bits, 5:6:5", 9, 2, 0x800, c2, c2_pixel},
-    {"2 bits, 5:5:5:1, BSWP", 9, 2, 0x2, c2s, c2s_pixel},
-    {"4 bits, 5:6:5", 10, 4, 0x800, c4, c4_pixel},
-    {"4 bits, 5:5:5:1, BSWP", 10, 4, 0x2, c4s, c4s_pixel},
-    {"8 bits, 5:6:5", 11, 8, 0x800, c8, c8_pixel},
-    {"8 bits, 5:5:5:1, BSWP", 11, 8, 0x2, c8s, c8s_pixel},
-    {"16 bits, 5:6:5", 12, 16, 0x800, c16, c16_pixel},
-    {"16 bits, 5:6:5, HWSWP", 12, 16, 0x801, c16s, c16s_pixel},
-    {"16 bits, 5:5:5:1", 12, 16, 0, c16i, c16i_pixel},
-    {"16 bits, 5:5:5:1, HWSWP", 12, 16, 0x1, c16is, c16is_pixel},
-    {"24 bits", 13, 32, 0, c24, c24_pixel},
-    {"24 bits, BPP24BL", 13, 32, 0x1000, c24b, c24b_pixel},
+    {"1 bit, 5:6:5", 8, 1, 0x800, 0, c1, c1_pixel},
+    {"1 bit, 5:5:5:1, BSWP", 8, 1, 0x2, 0, c1s, c1s_pixel},
+    {"2 bits, 5:6:5", 9, 2, 0x800, 0, c2, c2_pixel},
+    {"2 bits, 5:5:5:1, BSWP", 9, 2, 0x2, 0, c2s, c2s_pixel},
+    {"4 bits, 5:6:5", 10, 4, 0x800, 0, c4, c4_pixel},
+    {"4 bits, 5:5:5:1, BSWP", 10, 4, 0x2, 0, c4s, c4s_pixel},
+    {"8 bits, 5:6:5", 11, 8, 0x800, 0, c8, c8_pixel},
+    {"8 bits, 5:5:5:1, BSWP", 11, 8, 0x2, 0, c8s, c8s_pixel},
+    {"16 bits, 5:6:5", 12, 16, 0x800, 0, c16, c16_pixel},
+    {"16 bits, 5:6:5, HWSWP", 12, 16, 0x801, 0, c16s, c16s_pixel},
+    {"16 bits, 5:5:5:1", 12, 16, 0, 0, c16i, c16i_pixel},
+    {"16 bits, 5:5:5:1, HWSWP", 12, 16, 0x1, 0, c16is, c16is_pixel},
+    {"24 bits", 13, 32, 0, 0, c24, c24_pixel},
+    {"24 bits, BPP24BL", 13, 32, 0x1000, 0, c24b, c24b_pixel},
+    {"8 bits, TPALEN", 11, 8, 0x800, TPALEN | TPALVAL, cfill, cfill_pixel},
 };
 
 struct panel {
@@ -114,7 +116,7 @@ struct panel {
 static void describe(struct panel *p, const struct mode *m, unsigned width, unsigned height) {
     unsigned pagewidth = width * m->bits / 16;
     uint32_t words[9] = {0x61 | m->bppmode << 1, (height - 1) << 14, (width - 1) << 8, 0, m->lcdcon5, 0x18000000,
-                         pagewidth * height, pagewidth, 0};
+                         pagewidth * height, pagewidth, m->tpal};
     memcpy(p->words, words, sizeof words);
     p->width = width, p->height = height, p->stride = pagewidth / 2, p->mode = m;
 }
@@ -198,7 +200,7 @@ static void table(unsigned width, unsigned height) {
 enum { HSPW = 9, HBPD = 19, HFPD = 9, VSPW = 1, VBPD = 1, VFPD = 1, CLKVAL = 4, SLOW_ROUNDS = 40 };
 enum { CLOCKS_BEFORE = HSPW + 1 + HBPD + 1, CLOCKS_AFTER = HFPD + 1, LINES_BEFORE = VSPW + 1 + VBPD + 1, LINES_AFTER = VFPD + 1 };
 
-static uint32_t scan[LCD_SCAN_ENTRIES];
+static uint32_t scan[LCD_SCAN_ENTRIES], levels[LCD_CLOCK_ENTRIES], taken;
 
 static unsigned line_clocks(const struct panel *p) { return CLOCKS_BEFORE + p->width + CLOCKS_AFTER; }
 static unsigned frame_lines(const struct panel *p) { return LINES_BEFORE + p->height + LINES_AFTER; }
@@ -268,11 +270,12 @@ static void start(struct panel *p) {
 /* ---- what both do: a run, a step, a pixel */
 
 static void run(const struct panel *p, uint64_t clocks) {
-    refuse(lcd_run(scan, LCD_SCAN_ENTRIES, video, p->stride * p->height, palette, 256, clocks, ours, p->width * p->height));
+    refuse(lcd_run(scan, LCD_SCAN_ENTRIES, video, p->stride * p->height, palette, 256, clocks, ours, p->width * p->height, &taken,
+                   1));
 }
 
 static void step(const struct panel *p) {
-    refuse(lcd_step(scan, LCD_SCAN_ENTRIES, video, p->stride * p->height, palette, 256));
+    refuse(lcd_step(scan, LCD_SCAN_ENTRIES, video, p->stride * p->height, palette, 256, levels, LCD_CLOCK_ENTRIES));
 }
 
 typedef void runner(const struct panel *, uint64_t);
@@ -340,8 +343,8 @@ static void check_scan(const struct panel *p, stepper *our, stepper *their, cons
 static void check_steps(const struct panel *p) {
     for (unsigned i = 0; i < frame_clocks(p); i++) {
         step(p), plain_step(p);
-        if (scan[LCD_VSYNC] != plain.vsync || scan[LCD_HSYNC] != plain.hsync || scan[LCD_VDEN] != plain.vden ||
-            scan[LCD_VD] != plain.vd)
+        if (levels[LCD_VSYNC] != plain.vsync || levels[LCD_HSYNC] != plain.hsync || levels[LCD_VDEN] != plain.vden ||
+            levels[LCD_VD] != plain.vd)
             differ(p, "steps");
     }
 }

@@ -27,8 +27,9 @@
     CALL(write_fields, 1, NUMBER(0) | NUMBER(10) | NUMBER(12), READ(FIELDS), WRITE(WORDS_WRITTEN))                                 \
     CALL(read_sizes, 1, UP_TO(1) | NUMBER(10), READ(ANY_WORDS), WRITE(SIZES))                                                      \
     CALL(start, 1, UP_TO(10), READ(WORDS), VALUE(WINDOW_START), READ(VIDEO), WRITE(NEW_SCAN))                                      \
-    CALL(step, 4, UP_TO(10) | NUMBER(13) | NUMBER(15), WRITE(SCAN), READ(VIDEO), READ(PALETTE))                                    \
-    CALL(run, 3, UP_TO(10) | NUMBER(13) | NUMBER(15), WRITE(SCAN), READ(VIDEO), READ(PALETTE), VALUE(CLOCKS), WRITE(PICTURE))      \
+    CALL(step, 4, UP_TO(10) | NUMBER(13) | NUMBER(15), WRITE(SCAN), READ(VIDEO), READ(PALETTE), WRITE(CLOCK))                      \
+    CALL(run, 3, UP_TO(10) | NUMBER(13) | NUMBER(15), WRITE(SCAN), READ(VIDEO), READ(PALETTE), VALUE(CLOCKS), WRITE(PICTURE),      \
+         WRITE(TAKEN))                                                                                                             \
     CALL(change_viewport, 2, UP_TO(10) | NUMBER(13) | NUMBER(15), WRITE(SCAN), READ(VIDEO), VALUE(NEW_LCDSADDR1),                  \
          VALUE(NEW_LCDSADDR2))
 

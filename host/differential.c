@@ -22,7 +22,7 @@ enum { CASES = 20000, SEED = 1, ENOUGH = 1000, FEW = 3 };
 
 /* ---- the calls, from their table */
 
-enum { MOST_ARGUMENTS = 12, MOST_NUMBERS = 16 };
+enum { MOST_ARGUMENTS = 12, MOST_NUMBERS = 32 };
 
 struct argument {
     enum kind kind;
@@ -92,15 +92,20 @@ static uint32_t answer(const struct inputs *in, const struct call *call, enum si
 
 static uint64_t met[NAMES][MOST_NUMBERS];
 
-/* 14 is no call's. */
+/* Whether some call can give a number: these are the table's columns. */
+static bool is_column(int n) {
+    for (int call = 0; call < NAMES; call++)
+        if (calls[call].can_give & NUMBER(n))
+            return true;
+    return false;
+}
+
 static void print_row(int call) {
     printf("%-19s", calls[call].name);
     for (int n = 0; n < MOST_NUMBERS; n++) {
-        if (n == 14)
-            continue;
         if (calls[call].can_give & NUMBER(n))
             printf(" %7" PRIu64, met[call][n]);
-        else
+        else if (is_column(n))
             printf(" %7s", "-");
     }
     printf("\n");
@@ -109,7 +114,7 @@ static void print_row(int call) {
 static void print_table(void) {
     printf("%-19s", "");
     for (int n = 0; n < MOST_NUMBERS; n++)
-        if (n != 14)
+        if (is_column(n))
             printf(" %7d", n);
     printf("\n");
     for (int call = 0; call < NAMES; call++)

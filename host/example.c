@@ -103,32 +103,35 @@ static void t1_start(uint32_t *scan) {
     same("T1, pending LCDSADDR1", scan[LCD_PENDING_LCDSADDR1], t1_words[5]);
     same("T1, pending LCDSADDR2", scan[LCD_PENDING_LCDSADDR2], t1_words[6]);
     same("T1, position", scan[LCD_POSITION], 0);
-    untouched("T1, entry past the state", scan + LCD_VSYNC, LCD_SCAN_ENTRIES + 1 - LCD_VSYNC);
+    untouched("T1, entry past the state", scan + LCD_SCAN_ENTRIES, 1);
 }
 
 /* VDEN is active at two clocks, which show the two pixels; VSYNC through the first line, HSYNC at each line's first clock. */
 static void t1_steps(void) {
-    uint32_t scan[LCD_SCAN_ENTRIES + 1];
+    uint32_t scan[LCD_SCAN_ENTRIES + 1], clock[LCD_CLOCK_ENTRIES + 1];
     t1_start(scan);
-    for (uint32_t clock = 0; clock < T1_FRAME; clock++) {
-        same("T1, position before a step", scan[LCD_POSITION], clock);
-        same("T1, step", lcd_step(scan, LCD_SCAN_ENTRIES + 1, t1_longer, 3, palette, 256), 0);
-        same("T1, VSYNC", scan[LCD_VSYNC], clock < 4);
-        same("T1, HSYNC", scan[LCD_HSYNC], clock % 4 == 0);
-        same("T1, VDEN", scan[LCD_VDEN], clock == T1_FIRST || clock == T1_SECOND);
-        same("T1, VD", scan[LCD_VD], clock == T1_FIRST ? 0x112233 : clock == T1_SECOND ? 0xaabbcc : 0);
-        same("T1, clocks of a step", scan[LCD_TAKEN], 1);
+    prefill(clock, LCD_CLOCK_ENTRIES + 1);
+    for (uint32_t n = 0; n < T1_FRAME; n++) {
+        same("T1, position before a step", scan[LCD_POSITION], n);
+        same("T1, step", lcd_step(scan, LCD_SCAN_ENTRIES + 1, t1_longer, 3, palette, 256, clock, LCD_CLOCK_ENTRIES + 1), 0);
+        same("T1, VSYNC", clock[LCD_VSYNC], n < 4);
+        same("T1, HSYNC", clock[LCD_HSYNC], n % 4 == 0);
+        same("T1, VDEN", clock[LCD_VDEN], n == T1_FIRST || n == T1_SECOND);
+        same("T1, VD", clock[LCD_VD], n == T1_FIRST ? 0x112233 : n == T1_SECOND ? 0xaabbcc : 0);
     }
     same("T1, position after a frame", scan[LCD_POSITION], 0);
     untouched("T1, entry past the scan", scan + LCD_SCAN_ENTRIES, 1);
+    untouched("T1, entry past the clock", clock + LCD_CLOCK_ENTRIES, 1);
     puts("T1: a frame in 20 steps, with the two pixels at clocks 10 and 14");
 }
 
 /* A run: so many clocks taken, the next position, and the picture's two entries as they are then. */
 static void t1_run(uint32_t *scan, uint32_t *picture, uint64_t clocks, uint32_t taken, uint32_t position, uint32_t first,
                    uint32_t second) {
-    same("T1, run", lcd_run(scan, LCD_SCAN_ENTRIES + 1, t1_longer, 3, palette, 256, clocks, picture, 3), 0);
-    same("T1, clocks of a run", scan[LCD_TAKEN], taken);
+    uint32_t count[2] = {UNTOUCHED, UNTOUCHED};
+    same("T1, run", lcd_run(scan, LCD_SCAN_ENTRIES + 1, t1_longer, 3, palette, 256, clocks, picture, 3, count, 2), 0);
+    same("T1, clocks of a run", count[0], taken);
+    untouched("T1, entry past the count", count + 1, 1);
     same("T1, position after a run", scan[LCD_POSITION], position);
     same("T1, first entry after a run", picture[0], first);
     same("T1, second entry after a run", picture[1], second);
@@ -149,9 +152,28 @@ static void t1_runs(void) {
     puts("T1: a frame in four runs and in one, each with the picture");
 }
 
-/* A viewport one row later waits for the next frame; refused calls leave the scan as it is. */
+/* Calls that are refused, and leave the scan and what else they are lent as it is. */
+static void t1_refused(uint32_t *scan, uint32_t *picture) {
+    uint32_t kept[LCD_SCAN_ENTRIES + 1], clock[LCD_CLOCK_ENTRIES], taken = UNTOUCHED;
+    prefill(clock, LCD_CLOCK_ENTRIES);
+    prefill(picture, 3);
+    memcpy(kept, scan, sizeof kept);
+    same("T1, viewport past the memory",
+         lcd_change_viewport(scan, LCD_SCAN_ENTRIES + 1, t1_longer, 3, t1_words[5] + 4, t1_words[6] + 4), 8);
+    same("T1, run of a short scan", lcd_run(scan, LCD_SCAN_ENTRIES - 1, t1_longer, 3, palette, 256, 1, picture, 3, &taken, 1), 10);
+    same("T1, run without a count", lcd_run(scan, LCD_SCAN_ENTRIES, t1_longer, 3, palette, 256, T1_FRAME, picture, 3, &taken, 0), 10);
+    same("T1, step of a short clock", lcd_step(scan, LCD_SCAN_ENTRIES, t1_longer, 3, palette, 256, clock, LCD_CLOCK_ENTRIES - 1), 10);
+    same("T1, scan after refusals", memcmp(kept, scan, sizeof kept), 0);
+    scan[LCD_POSITION] = T1_FRAME;
+    same("T1, position past the frame", lcd_step(scan, LCD_SCAN_ENTRIES, t1_longer, 3, palette, 256, clock, LCD_CLOCK_ENTRIES), 15);
+    untouched("T1, clock of a refused step", clock, LCD_CLOCK_ENTRIES);
+    untouched("T1, count of a refused run", &taken, 1);
+    untouched("T1, picture of a refused run", picture, 3);
+}
+
+/* A viewport one row later waits for the next frame. */
 static void t1_viewport(void) {
-    uint32_t scan[LCD_SCAN_ENTRIES + 1], kept[LCD_SCAN_ENTRIES + 1], picture[3];
+    uint32_t scan[LCD_SCAN_ENTRIES + 1], picture[3];
     t1_start(scan);
     prefill(picture, 3);
     t1_run(scan, picture, T1_SECOND, T1_SECOND, T1_SECOND, 0x112233, UNTOUCHED);
@@ -160,13 +182,7 @@ static void t1_viewport(void) {
     t1_run(scan, picture, T1_FRAME, T1_FRAME - T1_SECOND, 0, 0x112233, 0xaabbcc);
     t1_run(scan, picture, T1_FRAME, T1_FRAME, 0, 0xaabbcc, 0x445566);
     same("T1, LCDSADDR1 of the next frame", scan[LCD_WORDS + 5], t1_words[5] + 2);
-    memcpy(kept, scan, sizeof scan);
-    same("T1, viewport past the memory",
-         lcd_change_viewport(scan, LCD_SCAN_ENTRIES + 1, t1_longer, 3, t1_words[5] + 4, t1_words[6] + 4), 8);
-    same("T1, run of a short scan", lcd_run(scan, LCD_SCAN_ENTRIES - 1, t1_longer, 3, palette, 256, 1, picture, 3), 10);
-    same("T1, scan after refusals", memcmp(kept, scan, sizeof scan), 0);
-    scan[LCD_POSITION] = T1_FRAME;
-    same("T1, position past the frame", lcd_step(scan, LCD_SCAN_ENTRIES + 1, t1_longer, 3, palette, 256), 15);
+    t1_refused(scan, picture);
     puts("T1: a new viewport comes into force with the next frame");
 }
 

@@ -233,8 +233,7 @@ static void lend_scan(struct inputs *in, enum kind kind) {
     in->state[LCD_WINDOW_START] = in->numbers[WINDOW_START];
     some_view(in, in->state + LCD_PENDING_LCDSADDR1);
     in->state[LCD_POSITION] = some_position(in->state);
-    lend_entries(in, kind, LCD_SCAN_ENTRIES, sizeof(uint32_t));
-    set_entries(&in->slices[kind], in->state, STATE);
+    lend_filled(in, kind, in->state, LCD_SCAN_ENTRIES);
 }
 
 static void lend_row(struct inputs *in, enum kind kind) {
@@ -302,6 +301,8 @@ static const struct {
     [FIELDS] = {.name = "fields", .make = lend_fields},
     [SCAN] = {.name = "scan", .make = lend_scan},
     [NEW_SCAN] = {.name = "scan", .entries = LCD_SCAN_ENTRIES, .bytes = 4},
+    [CLOCK] = {.name = "clock", .entries = LCD_CLOCK_ENTRIES, .bytes = 4},
+    [TAKEN] = {.name = "taken", .entries = 1, .bytes = 4},
     [COUNTS] = {.name = "counts", .entries = 3, .bytes = 8},
     [PIXEL_COLOUR] = {.name = "out", .entries = 1, .bytes = 4},
     [ROW_COLOURS] = {.name = "out", .make = lend_row},
@@ -373,18 +374,18 @@ void go_on_with_scan(struct inputs *in) {
 }
 
 void begin_call_of_list(struct inputs *in) {
-    uint32_t lent[STATE];
+    uint32_t lent[LCD_SCAN_ENTRIES];
     memcpy(in->state, in->slices[SCAN].before, sizeof in->state);
     memcpy(lent, in->state, sizeof lent);
     if (chance(3))
         prefill(&in->slices[VIDEO]);
     in->harmed = chance(4);
     if (in->harmed)
-        flip_bit(lent, STATE);
-    set_entries(&in->slices[SCAN], lent, STATE);
+        flip_bit(lent, LCD_SCAN_ENTRIES);
+    set_entries(&in->slices[SCAN], lent, LCD_SCAN_ENTRIES);
 }
 
 void end_call_of_list(struct inputs *in) {
     if (in->harmed && chance(90))
-        set_entries(&in->slices[SCAN], in->state, STATE);
+        set_entries(&in->slices[SCAN], in->state, LCD_SCAN_ENTRIES);
 }

@@ -16,20 +16,17 @@ enum kind {
     ANY_WORDS,   /* or of any fields */
     VIDEO, PALETTE, FIELDS,
     /* slices to write, the scan also to read */
-    SCAN, NEW_SCAN, COUNTS, PIXEL_COLOUR, ROW_COLOURS, PICTURE, FIELDS_READ, WORDS_WRITTEN, SIZES,
+    SCAN, NEW_SCAN, CLOCK, TAKEN, COUNTS, PIXEL_COLOUR, ROW_COLOURS, PICTURE, FIELDS_READ, WORDS_WRITTEN, SIZES,
     /* numbers */
     NUMBERS, WINDOW_START = NUMBERS, HCLK, ROW, COLUMN, CLOCKS, NEW_LCDSADDR1, NEW_LCDSADDR2,
     KINDS
 };
 
-/* The entries that a call reads of a scan. */
-enum { STATE = LCD_POSITION + 1 };
-
 /* All that the calls of a case are given. The state begins with the words of the case, or of the scan in a list of calls. */
 struct inputs {
     struct slice slices[KINDS];
     uint64_t numbers[KINDS];
-    uint32_t state[STATE];
+    uint32_t state[LCD_SCAN_ENTRIES];
     bool sound, in_list, harmed;
 };
 

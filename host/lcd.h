@@ -5,11 +5,11 @@
  * window_start  the byte address of the first word of `video`
  * video         video memory, as 32-bit words
  * palette       the 256 palette entries
- * scan          the state of a scan, as 18 entries (see `lcd_scan_entry`); what follows stays
+ * scan          the state of a scan, as 13 entries (see `lcd_scan_entry`); what follows stays
  * *_len         how many entries (not bytes) the slice before it has
  *
  * Each call returns 0 where it is done. Else it returns the number of the refusal (`LCD_REFUSALS`), and nothing lent is changed.
- * The lowest number that applies is given; only 10 for fewer than nine words, or for a scan that is read and has fewer than 18
+ * The lowest number that applies is given; only 10 for fewer than nine words, or for a scan that is read and has fewer than 13
  * entries, comes before all.
  *
  * The calls keep nothing between them, allocate nothing and may run on several threads at a time. A pointer may be any aligned
@@ -25,9 +25,9 @@ extern "C" {
 #endif
 
 /* The version of this interface: the first number grows where a call changes, the second where something is added. */
-#define LCD_VERSION_MAJOR 1
-#define LCD_VERSION_MINOR 1
-#define LCD_VERSION "1.1"
+#define LCD_VERSION_MAJOR 2
+#define LCD_VERSION_MINOR 0
+#define LCD_VERSION "2.0"
 
 /* How many words and how many palette entries there are. */
 enum { LCD_REGISTERS = 9, LCD_PALETTE_ENTRIES = 256 };
@@ -135,43 +135,47 @@ uint32_t lcd_read_sizes(const uint32_t *words, size_t words_len, uint32_t *sizes
 /* ---- the scan, clock by clock
  *
  * A scan is started by lcd_start and goes on with lcd_step, lcd_run and lcd_change_viewport in any order. All that it knows lies in
- * its 18 entries, so copying them copies the scan, and a state from elsewhere may be filled in by hand: each call checks entries 0
- * to 12 again, and 13 to 17 are only written. A refused call leaves all of them. */
+ * its 13 entries, so copying them copies the scan, and a state from elsewhere may be filled in by hand: each call checks all of them
+ * again. What a clock shows, and how many were taken, goes to a slice of its own. */
 enum lcd_scan_entry {
     LCD_WORDS = 0,              /* 0 to 8: the nine words in force, in their order */
     LCD_WINDOW_START = 9,       /* the byte address of the first word of `video` */
     LCD_PENDING_LCDSADDR1 = 10, /* the viewport that comes into force when clock 0 of the next frame is taken */
     LCD_PENDING_LCDSADDR2 = 11,
     LCD_POSITION = 12,          /* the number of the next clock in its frame, from 0 */
-    LCD_VSYNC = 13,             /* the levels of the last step's clock, 0 or 1, as INVVFRAME, INVVLINE and INVVDEN give them */
-    LCD_HSYNC = 14,
-    LCD_VDEN = 15,
-    LCD_VD = 16,                /* and its 24 data lines, as INVVD gives them */
-    LCD_TAKEN = 17,             /* how many clocks the last step or run took */
-    LCD_SCAN_ENTRIES = 18
+    LCD_SCAN_ENTRIES = 13
 };
 
-/* Starts a scan: the words, the window start, the words' viewport as the pending one and position 0, to entries 0 to 12; 13 to 17
- * stay.
- * Refuses 10 (fewer than nine words), then 1 to 9, then 10 (`scan` has fewer than 18 entries). */
+/* What one clock shows. */
+enum lcd_clock_entry {
+    LCD_VSYNC = 0, /* levels, 0 or 1, as INVVFRAME, INVVLINE and INVVDEN give them */
+    LCD_HSYNC = 1,
+    LCD_VDEN = 2,
+    LCD_VD = 3,    /* the 24 data lines, as INVVD gives them */
+    LCD_CLOCK_ENTRIES = 4
+};
+
+/* Starts a scan: the words, the window start, the words' viewport as the pending one and position 0, to the 13 entries of `scan`.
+ * Further entries stay.
+ * Refuses 10 (fewer than nine words), then 1 to 9, then 10 (`scan` has fewer than 13 entries). */
 uint32_t lcd_start(const uint32_t *words, size_t words_len, uint32_t window_start, const uint32_t *video, size_t video_len,
                    uint32_t *scan, size_t scan_len);
 
-/* Takes one clock: the next state to entries 0 to 12, the clock's levels to 13 to 16, and 1 to entry 17.
- * Refuses 10 (`scan` has fewer than 18 entries), then 1 to 8 of the viewport in force and of the pending one, 9, 10 (the palette
- * has not 256 entries), 13, 15. */
+/* Takes one clock: the next state to `scan`, what the clock shows to the first four entries of `clock`. Further entries stay.
+ * Refuses 10 (`scan` has fewer than 13 entries), then 1 to 8 of the viewport in force and of the pending one, 9, 10 (the palette
+ * has not 256 entries, or `clock` fewer than four), 13, 15. */
 uint32_t lcd_step(uint32_t *scan, size_t scan_len, const uint32_t *video, size_t video_len, const uint16_t *palette,
-                  size_t palette_len);
+                  size_t palette_len, uint32_t *clock, size_t clock_len);
 
-/* Takes up to `clocks` clocks, but none past the end of the frame: the next state to entries 0 to 12, and to entry 17 how many it
- * took; 13 to 16 stay. The colours of the active clocks go to their entries of `picture`, W x H in reading order; all others stay.
- * Refuses 10 (`scan` has fewer than 18 entries), then 1 to 8 of the viewport in force and of the pending one, 9, 10 (the palette
- * has not 256 entries, or `picture` fewer than W x H), 13, 15. */
+/* Takes up to `clocks` clocks, but none past the end of the frame: the next state to `scan`, the colours of the active clocks to their
+ * entries of `picture`, W x H in reading order, and how many it took to the first entry of `taken`. All other entries stay.
+ * Refuses 10 (`scan` has fewer than 13 entries), then 1 to 8 of the viewport in force and of the pending one, 9, 10 (the palette
+ * has not 256 entries, `picture` fewer than W x H, or `taken` none), 13, 15. */
 uint32_t lcd_run(uint32_t *scan, size_t scan_len, const uint32_t *video, size_t video_len, const uint16_t *palette,
-                 size_t palette_len, uint64_t clocks, uint32_t *picture, size_t picture_len);
+                 size_t palette_len, uint64_t clocks, uint32_t *picture, size_t picture_len, uint32_t *taken, size_t taken_len);
 
 /* Brings a new LCDSADDR1 and LCDSADDR2, to entries 10 and 11: they come into force with the next frame.
- * Refuses 10 (`scan` has fewer than 18 entries), then 1 to 8 of the viewport in force, the pending one and the new one, 9, 13, 15. */
+ * Refuses 10 (`scan` has fewer than 13 entries), then 1 to 8 of the viewport in force, the pending one and the new one, 9, 13, 15. */
 uint32_t lcd_change_viewport(uint32_t *scan, size_t scan_len, const uint32_t *video, size_t video_len, uint32_t lcdsaddr1,
                              uint32_t lcdsaddr2);
 

@@ -1,6 +1,7 @@
 /* A second reading of document 01, in plain C: for each call of lcd.h a twin with the same parameters, answers and lent slices.
  * It is written from the paper alone and shares no code with the library, so that host/differential.c can hold the two against
- * each other. It is there to be read, not to be fast: "The nine words" to "Numbers of refusal" (host/model.c). */
+ * each other. It is there to be read, not to be fast: "The nine words" to "Clocks and lines" are rules.c, "Numbers of refusal" and
+ * the calls are model.c. */
 #ifndef MODEL_H
 #define MODEL_H
 

@@ -101,23 +101,21 @@ def size(lent):
 
 
 def asked(lent, call, args):
-    """What a call needs of its lent entries and what these are, then the row, the column and the end of the stretch asked for."""
+    """What a call needs of its lent entries and what these are, then the row and the column asked for."""
     if call == "pixel":
-        return 0, 0, args[0], args[1], 0
+        return 0, 0, args[0], args[1]
     if call == "row":
-        return size(lent)[0], args[0], args[1], 0, 0
+        return size(lent)[0], args[0], args[1], 0
     if call in ("picture", "run"):
-        return size(lent)[1], args[0], 0, 0, 0
-    if call == "stretch":
-        return size(lent)[1], args[0], 0, 0, args[1] + args[2]
-    return 0, 0, 0, 0, 0
+        return size(lent)[1], args[0], 0, 0
+    return 0, 0, 0, 0
 
 
 def applying(lent, call, *args):
     """All numbers that apply to a call on nine words, ascending. A mode number that selects nothing counts as 0 stored bits."""
     f = fields(lent.words)
     w, h, pitch = f["HOZVAL"] + 1, f["LINEVAL"] + 1, f["PAGEWIDTH"] + f["OFFSIZE"]
-    needed, has, row, column, end = asked(lent, call, args)
+    needed, has, row, column = asked(lent, call, args)
     conditions = {
         1: reserved_bit(lent.words),
         2: f["PNRMODE"] != 3,
@@ -129,9 +127,9 @@ def applying(lent, call, *args):
         8: outside(lent, f),
         9: f["ENVID"] == 0,
         10: len(lent.palette) != 256 or has < needed,
-        11: row >= h or column >= w or end > w * h,
+        11: row >= h or column >= w,
     }
-    judged = {"counts": 7, "rate": 7, "check": 8, "begin": 9, "view": 9, "picture": 10, "step": 10, "run": 10}.get(call, 11)
+    judged = {"stretch": 0, "counts": 7, "rate": 7, "check": 8, "begin": 9, "view": 9, "picture": 10, "step": 10, "run": 10}.get(call, 11)
     return [n for n, holds in conditions.items() if n <= judged and holds]
 
 
@@ -195,7 +193,7 @@ VALUES = {
     "pixel": lambda lent, row, column: [colours_of_row(lent, row)[column]],
     "row": lambda lent, has, row: colours_of_row(lent, row),
     "picture": lambda lent, has: colours(lent),
-    "stretch": lambda lent, has, first, count: colours(lent)[first:first + count],
+    "stretch": lambda lent, has, first, count: colours(lent)[first:min(first + count, has)],
 }
 
 
@@ -366,7 +364,7 @@ HEADER = """# Vectors of the conformance program. Made by host/vectors.py, which
 #   pixel ROW COLUMN =        the colour
 #   row LENT ROW =            the entries from the first on, of LENT that are lent
 #   picture LENT =            the same
-#   stretch LENT FIRST COUNT = the entries from FIRST on
+#   stretch LENT FIRST COUNT = the entries from FIRST on, as far as panel and picture have them; it is never refused
 # Entries that are not listed are due as they were before the call, so all of them where it is refused.
 # A scan is kept from line to line: each call gets the state that the one before returned, after a refusal the old one, and each
 # run the picture as the one before left it. Settings:
@@ -612,17 +610,19 @@ def refusals():
 
 def all_calls(g, about, lent, has=None):
     width, pixels = size(lent) if len(lent.words) >= 9 else (0, 0)
+    room = pixels if has is None else has
     g.case(about, lent, "check")
     g.case(None, lent, "counts")
     g.case(None, lent, "rate")
     g.case(None, lent, "pixel", 0, 0)
     g.case(None, lent, "row", width if has is None else has, 0)
-    g.case(None, lent, "picture", pixels if has is None else has)
-    g.case(None, lent, "stretch", pixels if has is None else has, 0, 1)
+    g.case(None, lent, "picture", room)
+    if not refusal(lent, "picture", room):
+        g.case(None, lent, "stretch", room, 0, 1)
 
 
 def calls():
-    g = Group("calls", "which call judges what: each number 1 to 11 through every call; lengths; rows, columns and stretches")
+    g = Group("calls", "which call judges what: each number 1 to 11 through every call; lengths; rows and columns; stretches, which judge nothing")
     for number, words in bad_words().items():
         all_calls(g, f"{number} in every call", Lent(words, hclk=48000000, video=noise(64)), has=16)
     good = panel(8, 4, 2, FRM565=1)
@@ -644,14 +644,17 @@ def calls():
         g.case(f"a row of {has} for a width of 4", lent, "row", has, 1)
     for has in (0, 4, 7, 8, 9):
         g.case(f"a picture of {has} for 8 pixels", lent, "picture", has)
-        g.case(None, lent, "stretch", has, 0, 2)
+    for has in (8, 9):
+        g.case(f"two pixels of 8 to a picture of {has}", lent, "stretch", has, 0, 2)
+    for has in (0, 1, 7):
+        g.case(f"eight pixels to a picture of {has}, which cuts them", lent, "stretch", has, 0, 8)
     for r, c in ((1, 3), (2, 0), (0, 4), (2, 4), (0xFFFFFFFF, 0), (0, 0xFFFFFFFF), (0x80000001, 0)):
         g.case(f"the pixel at row {r}, column {c}", lent, "pixel", r, c)
     for r in (1, 2, 3, 0xFFFFFFFF):
         g.case(f"row {r} of two", lent, "row", 4, r)
     wide = Lent(panel(4, 16, 3, OFFSIZE=2, FRM565=1), video=noise(8, 4))
     for first, count in ((0, 48), (0, 0), (5, 0), (48, 0), (0, 1), (47, 1), (5, 3), (5, 11), (5, 12), (15, 2), (16, 16), (3, 40),
-                         (8, 8), (31, 17), (49, 0), (48, 1), (0, 49), (47, 2), (1, 0xFFFFFFFF), (0xFFFFFFFF, 1)):
+                         (8, 8), (31, 17), (47, 2), (48, 1), (0, 49), (49, 0), (49, 3), (1, 0xFFFFFFFF), (0xFFFFFFFF, 1)):
         g.case(f"stretch {first}, {count} of 3 rows of 16", wide, "stretch", 50, first, count)
     one = Lent(panel(1, 64, 2, BSWP=1), video=noise(4, 9))
     for first, count in ((1, 62), (31, 34), (33, 1), (60, 10)):
@@ -693,7 +696,6 @@ def pairs():
             ("9 and 11", lend(panel(8, 4, 2, ENVID=0), 2), "row", 4, 2),
             ("10 and 11, palette and column", lend(good, 2, PALETTE + [0]), "pixel", 0, 4),
             ("10 and 11, row", lend(good, 2), "row", 3, 2),
-            ("10 and 11, stretch", lend(good, 2), "stretch", 7, 8, 1),
             ("short words and a reserved bit", lend(reserved(good)[:8]), "check"),
             ("short words and PNRMODE", lend(panel(8, 4, 2, PNRMODE=0)[:8]), "counts"),
             ("short words and no memory", lend(good[:8], 0), "check"),
@@ -1296,7 +1298,6 @@ def hand():
     g.case("a picture of 1", lend(t1, two), "picture", 1, due=[10])
     g.case("row 2", lend(t1, two), "row", 1, 2, due=[11])
     g.case("column 1", lend(t1, two), "pixel", 0, 1, due=[11])
-    g.case("a stretch past the end", lend(t1, two), "stretch", 2, 1, 2, due=[11])
     hand_scan(g)
 
 

@@ -5,7 +5,7 @@
 #include "words.h"
 
 /* One case in so many is of a large panel, which takes its time. */
-enum { LARGE_IN = 300 };
+enum { LARGE_IN = 320 };
 
 /* ---- fields */
 

@@ -11,25 +11,25 @@ use drawing::row::draw_row;
 use input::halves;
 use input::length_refused;
 use input::words;
+use memory::Screen;
 use output::print_counts;
 use output::print_refused;
 use output::print_row;
 use panel::geometry::height;
 use panel::geometry::width;
 use registers::Loaded;
-use registers::Words;
 use registers::load;
 
 // Every row from the first on. None is refused where the first was not: what differs from row to row is its number alone, and
 // that stays below the height. A refusal would end the output.
-fn print_rows(w: Words, window_start: u32, video: &[u32], palette: &[u16], row: &mut [u32])
+fn print_rows(s: Screen, video: &[u32], palette: &[u16], row: &mut [u32])
     requires { ⌜ 2048 ≤ length (now row) ⌝ }
 {
-    let wide = width(w) as usize;
-    let high = height(w);
+    let wide = width(s.words) as usize;
+    let high = height(s.words);
     let mut r = 0;
     while r < high {
-        if draw_row(w, window_start, video, palette, r, row) != 0 {
+        if draw_row(s, video, palette, r, row) != 0 {
             return;
         }
         print_row(&row[..wide]);
@@ -38,15 +38,15 @@ fn print_rows(w: Words, window_start: u32, video: &[u32], palette: &[u16], row: 
 }
 
 // Draws the first row to see whether the panel is refused.
-fn print_panel(w: Words, hclk: u32, window_start: u32, video: &[u32], palette: &[u16]) {
+fn print_panel(s: Screen, hclk: u32, video: &[u32], palette: &[u16]) {
     let mut row = [0u32; 2048];
-    let refusal = draw_row(w, window_start, video, palette, 0, &mut row);
+    let refusal = draw_row(s, video, palette, 0, &mut row);
     if refusal != 0 {
         print_refused(refusal);
         return;
     }
-    print_counts(w, hclk);
-    print_rows(w, window_start, video, palette, &mut row);
+    print_counts(s.words, hclk);
+    print_rows(s, video, palette, &mut row);
 }
 
 // Words, HCLK and window start come first, then the palette.
@@ -58,7 +58,13 @@ fn print_video(bytes: &[u8], video: &[u32])
     let mut head = [0u32; 11];
     words(bytes, 0, 11, &mut head);
     match load(&head) {
-        Loaded::Nine(w) => print_panel(w, head[9], head[10], video, &palette),
+        Loaded::Nine(w) => {
+            let s = Screen {
+                words: w,
+                window_start: head[10],
+            };
+            print_panel(s, head[9], video, &palette)
+        }
         Loaded::Refused(refusal) => print_refused(refusal),
     }
 }

@@ -1,5 +1,6 @@
 -- The worked cases of document 01 (T1 of "The bench", T2 to T11 of "Both sides of the line"), "proved about the definitions as a
--- single table under one claim". A row sets what the definitions give beside the paper's numbers. Assumes nothing.
+-- single table under one claim". A row sets what the definitions give beside the paper's numbers. Each thing that rows ask for has a
+-- name here, and its `unfolding` line names what it computes with: where it unfolds, so do they. Assumes nothing.
 use mathlib.Core.Bool.{Bool, true, false, _&&_}
 use mathlib.Core.List.{List, [], _∷_, map}
 use mathlib.Core.Path.{_≡_}
@@ -18,18 +19,21 @@ use Rattle.fields.specs.Writing.{write, fieldTooWide}
 use Rattle.fields.specs.declared.Fields.{Fields}
 use Rattle.panel.specs.Counts.{counts, rate, frameTicks}
 use Rattle.panel.specs.Geometry.{width, height, storedBits, outsideModes, rowOffset}
-use Rattle.panel.specs.Refusals.{judge, accept, notTft, noSuchMode, swapsIllegal, rowSizeWrong, endDiffers, pastBank}
+use Rattle.panel.specs.Refusals.{judge, accept, notTft, noSuchMode, swapsIllegal, rowSizeWrong, endDiffers, pastBank, videoOff}
 use Rattle.panel.specs.Timing.{lineClocks, frameLines, frameClocks}
 use Rattle.panel.specs.declared.frame.Counts.{Counts}
 use Rattle.panel.proofs.Examples as Panel
 use Rattle.pixels.specs.Colours.{expanded, expanded565, expanded5551, cut24}
-use Rattle.pixels.specs.Format.{format}
+use Rattle.pixels.specs.Format.{format, expansionOf}
 use Rattle.pixels.specs.Order as Order
 use Rattle.pixels.specs.Pixel.{shown}
-use Rattle.drawing.specs.Colour.{storedPixel, rowColour, colour}
+use Rattle.pixels.specs.declared.colours.Expansion.{Expansion}
+use Rattle.pixels.specs.declared.colours.Expansion.the-variants.{Rgb565, Rgb5551}
+use Rattle.drawing.specs.Colour.{lending, storedPixel, rowColour, colour}
 use Rattle.drawing.specs.Drawing.{drawRow, drawPicture, colourInOrder, judgeRow, judgePicture, judgeDrawing}
-use Rattle.drawing.specs.Drawing.{videoOff, paletteWrong, rowOutside}
-use Rattle.memory.specs.Memory.{judgeMemory, outsideMemory, wordOutside, rowAddress, firstWord}
+use Rattle.drawing.specs.Drawing.{paletteWrong, rowOutside}
+use Rattle.memory.specs.declared.Screen.{Screen}
+use Rattle.memory.specs.Memory.{screen, judgeMemory, outsideMemory, wordOutside, rowAddress, firstWord}
 
 -- ---- rows
 
@@ -85,9 +89,12 @@ leftBy o = o .refusal ∷ o .left
 
 -- ---- what the cases are about
 
--- T1's words and memory; it uses no palette, and is lent one of zeros
+-- T1's words, window start and memory; it uses no palette, and is lent one of zeros
 abbrev t1 : List ℕ
 t1 = 0x7B ∷ 0x4000 ∷ 0 ∷ 0 ∷ 0 ∷ 0x18000000 ∷ 4 ∷ 2 ∷ 0 ∷ []
+
+abbrev t1Screen : Screen
+t1Screen = screen (nineWords t1) 0x30000000
 
 abbrev t1Memory : List ℕ
 t1Memory = 0x00112233 ∷ 0x00AABBCC ∷ []
@@ -95,34 +102,9 @@ t1Memory = 0x00112233 ∷ 0x00AABBCC ∷ []
 abbrev zeros : List ℕ
 zeros = replicate 256 0
 
--- its picture, and a row of it, drawn to lent entries
-abbrev t1Picture : List ℕ → List ℕ
-t1Picture lent = leftBy (drawPicture (nineWords t1) 0x30000000 t1Memory zeros lent)
-
-abbrev t1Row : ℕ → List ℕ → List ℕ
-t1Row r lent = leftBy (drawRow (nineWords t1) 0x30000000 t1Memory zeros r lent)
-
--- pixels of the word 0x01234567, by stored bits, BSWP, HWSWP and their numbers
-abbrev pixels : ℕ → Bool → Bool → List ℕ → List ℕ
-pixels s bswp hwswp numbers = map (storedPixel s bswp hwswp (0x01234567 ∷ []) 0) numbers
-
 -- T9's words; T8 and T10 are of the same panel
 abbrev t9 : List ℕ
 t9 = 0x479 ∷ 0x014FC041 ∷ 0x0098EF09 ∷ 0x9 ∷ 0xB09 ∷ 0x18000000 ∷ 0x12C00 ∷ 0xF0 ∷ 0 ∷ []
-
--- the sizes that words say: W, H, HSPW, HBPD, HFPD, VSPW, VBPD, VFPD, CLKVAL
-abbrev sizes : Words → List ℕ
-sizes w =
-    width w
-    ∷ height w
-    ∷ Field.hspw w
-    ∷ Field.hbpd w
-    ∷ Field.hfpd w
-    ∷ Field.vspw w
-    ∷ Field.vbpd w
-    ∷ Field.vfpd w
-    ∷ Field.clkval w
-    ∷ []
 
 -- the fields of that panel
 abbrev t9Fields : Fields
@@ -157,14 +139,88 @@ t9Fields =
 abbrev t11 : ℕ → List ℕ
 t11 hozval = 0x7B ∷ 0 ∷ hozval * 2 ^ 8 ∷ 0 ∷ 0 ∷ 0x18000000 ∷ 2046 ∷ 2046 ∷ 0 ∷ []
 
+-- ---- what the rows ask for
+
+-- the judgement of nine words by 1 to 7
+unfoldable pub judgement : List ℕ → ℕ
+unfolding judge lowest lower reservedBit notTft noSuchMode outsideModes swapsIllegal storedBits rowSizeWrong endDiffers pastBank rowOffset
+judgement words = judge (nineWords words)
+
+-- clocks and ticks of a frame, and its rate at an HCLK
+unfoldable pub counted : List ℕ → List ℕ
+unfolding judgement counts mapped accept andThen load shortOfNine judged lineClocks frameLines frameClocks frameTicks
+counted words = answered clocksAndTicks (counts words)
+
+unfoldable pub rated : List ℕ → ℕ → List ℕ
+unfolding counted rate
+rated words hclk = answered alone (rate words hclk)
+
+-- the sizes that words say: W, H, HSPW, HBPD, HFPD, VSPW, VBPD, VFPD, CLKVAL
+abbrev sizes : Words → List ℕ
+sizes w =
+    width w
+    ∷ height w
+    ∷ Field.hspw w
+    ∷ Field.hbpd w
+    ∷ Field.hfpd w
+    ∷ Field.vspw w
+    ∷ Field.vbpd w
+    ∷ Field.vfpd w
+    ∷ Field.clkval w
+    ∷ []
+
+-- the stored bits of a pixel in the mode that words say
+unfoldable pub depth : List ℕ → ℕ
+unfolding storedBits
+depth words = storedBits (bppmode (nineWords words))
+
+-- pixels of the word 0x01234567, by stored bits, BSWP, HWSWP and their numbers
+unfoldable pub pixels : ℕ → Bool → Bool → List ℕ → List ℕ
+unfolding storedPixel Order.inOrder Order.reverseBytes Order.exchangeHalves Order.pixelBits
+pixels s bswp hwswp numbers = map (storedPixel s bswp hwswp (0x01234567 ∷ []) 0) numbers
+
+-- colours of 24 bits and of 16
+unfoldable pub cuts : Bool → List ℕ → List ℕ
+unfolding cut24
+cuts bpp24bl numbers = map (cut24 bpp24bl) numbers
+
+unfoldable pub expansions : Expansion → List ℕ → List ℕ
+unfolding expanded expanded565 expanded5551
+expansions e numbers = map (expanded e) numbers
+
+-- the words that fields are packed to
+unfoldable pub written : Fields → List ℕ
+unfolding judged write fieldTooWide
+written fields = answered nine (write fields)
+
+-- the judgement of nine words by 1 to 8, with the window start and so many words of memory
+unfoldable pub judgementOf : List ℕ → ℕ → ℕ → ℕ
+unfolding judgement judgeMemory outsideMemory wordOutside rowAddress someBelow
+judgementOf words window-start lent = judgeMemory (screen (nineWords words) window-start) lent
+
+-- the colour of a pixel of T1's panel
+unfoldable pub t1Colour : ℕ → ℕ → ℕ
+unfolding pixels cuts expansions colour rowColour shown format expansionOf firstWord rowAddress
+t1Colour r c = colour t1Screen (lending t1Memory zeros) r c
+
+-- its picture, and a row of it, drawn to lent entries
+unfoldable pub t1Picture : List ℕ → List ℕ
+unfolding judgementOf t1Colour drawPicture judgePicture judgeDrawing videoOff paletteWrong tooShort outcome stores colourInOrder
+t1Picture lent = leftBy (drawPicture t1Screen (lending t1Memory zeros) lent)
+
+unfoldable pub t1Row : ℕ → List ℕ → List ℕ
+unfolding t1Picture drawRow judgeRow rowOutside
+t1Row r lent = leftBy (drawRow t1Screen (lending t1Memory zeros) r lent)
+
 -- ---- the table
 
 abbrev pub rows : List Row
 rows =
     -- T1: clocks 20 hclk 40 mhz 25000
-    row T1 (answered clocksAndTicks (counts t1)) (0 ∷ 20 ∷ 40 ∷ [])
-    ∷ row T1 (answered alone (rate t1 1000)) (0 ∷ 25000 ∷ [])
-    -- T1: the picture 112233, aabbcc; "entries past W × H stay"
+    row T1 (counted t1) (0 ∷ 20 ∷ 40 ∷ [])
+    ∷ row T1 (rated t1 1000) (0 ∷ 25000 ∷ [])
+    -- T1: its two colours 112233, aabbcc; the picture of them; "entries past W × H stay"
+    ∷ row T1 (map (λ r. t1Colour r 0) (0 ∷ 1 ∷ [])) (0x112233 ∷ 0xAABBCC ∷ [])
     ∷ row T1 (t1Picture (0 ∷ 0 ∷ [])) (0 ∷ 0x112233 ∷ 0xAABBCC ∷ [])
     ∷ row T1 (t1Picture (7 ∷ 8 ∷ 9 ∷ [])) (0 ∷ 0x112233 ∷ 0xAABBCC ∷ 9 ∷ [])
     -- T1: its two rows, each to the first of two lent entries
@@ -179,24 +235,24 @@ rows =
     ∷ row T4 (pixels 16 false false (0 ∷ 1 ∷ [])) (0x0123 ∷ 0x4567 ∷ [])
     ∷ row T4 (pixels 16 false true (0 ∷ 1 ∷ [])) (0x4567 ∷ 0x0123 ∷ [])
     -- T5: 24 bits: 234567; BPP24BL 012345
-    ∷ row T5 (map (cut24 false) (pixels 32 false false (0 ∷ []))) (0x234567 ∷ [])
-    ∷ row T5 (map (cut24 true) (pixels 32 false false (0 ∷ []))) (0x012345 ∷ [])
+    ∷ row T5 (cuts false (pixels 32 false false (0 ∷ []))) (0x234567 ∷ [])
+    ∷ row T5 (cuts true (pixels 32 false false (0 ∷ []))) (0x012345 ∷ [])
     -- T6: 565 of FFFF is F8FCF8, of 07E0 is 00FC00
-    ∷ row T6 (map (expanded true) (0xFFFF ∷ 0x07E0 ∷ [])) (0xF8FCF8 ∷ 0x00FC00 ∷ [])
+    ∷ row T6 (expansions Rgb565 (0xFFFF ∷ 0x07E0 ∷ [])) (0xF8FCF8 ∷ 0x00FC00 ∷ [])
     -- T7: 5551 of FFFF is FCFCFC, of 0001 is 040404
-    ∷ row T7 (map (expanded false) (0xFFFF ∷ 0x0001 ∷ [])) (0xFCFCFC ∷ 0x040404 ∷ [])
+    ∷ row T7 (expansions Rgb5551 (0xFFFF ∷ 0x0001 ∷ [])) (0xFCFCFC ∷ 0x040404 ∷ [])
     -- T8: a 240 by 320 panel with HSPW 9, HBPD 19, HFPD 9, VSPW 1, VBPD 1, VFPD 1, CLKVAL 4
     ∷ row T8 (sizes (nineWords t9)) (240 ∷ 320 ∷ 9 ∷ 19 ∷ 9 ∷ 1 ∷ 1 ∷ 1 ∷ 4 ∷ [])
     -- T8: 91,280 clocks, 912,800 ticks, and 109,553 mHz at 100 MHz
-    ∷ row T8 (answered clocksAndTicks (counts t9)) (0 ∷ 91280 ∷ 912800 ∷ [])
-    ∷ row T8 (answered alone (rate t9 100000000)) (0 ∷ 109553 ∷ [])
+    ∷ row T8 (counted t9) (0 ∷ 91280 ∷ 912800 ∷ [])
+    ∷ row T8 (rated t9 100000000) (0 ∷ 109553 ∷ [])
     -- T9: the same panel at 16 bits has words 0x479, 0x014FC041 and so on
-    ∷ row T9 (storedBits (bppmode (nineWords t9)) ∷ []) (16 ∷ [])
-    ∷ row T9 (answered nine (write t9Fields)) (0 ∷ t9)
+    ∷ row T9 (depth t9 ∷ []) (16 ∷ [])
+    ∷ row T9 (written t9Fields) (0 ∷ t9)
     -- T10: with start 0x30000000, 38,400 memory words suffice and 38,399 give 8
-    ∷ row T10 (map (judgeMemory (nineWords t9) 0x30000000) (38399 ∷ 38400 ∷ [])) (8 ∷ 0 ∷ [])
+    ∷ row T10 (map (judgementOf t9 0x30000000) (38399 ∷ 38400 ∷ [])) (8 ∷ 0 ∷ [])
     -- T11: 24 bits, width 1023 with PAGEWIDTH 2046 is accepted, width 1024 with it gives 5
-    ∷ row T11 (map (λ hozval. judge (nineWords (t11 hozval))) (1022 ∷ 1023 ∷ [])) (0 ∷ 5 ∷ [])
+    ∷ row T11 (map (λ hozval. judgement (t11 hozval)) (1022 ∷ 1023 ∷ [])) (0 ∷ 5 ∷ [])
     ∷ []
 
 -- ---- the claim
@@ -211,5 +267,5 @@ pub record WorkedCases : Type 0 where
       → notTft w ≡ false → swapsIllegal w ≡ false → judge w ≡ 5
 
 pub worked-cases : WorkedCases
-unfolding counts rate mapped accept andThen load shortOfNine judged judge lowest lower reservedBit notTft noSuchMode outsideModes swapsIllegal storedBits rowSizeWrong endDiffers pastBank rowOffset lineClocks frameLines frameClocks frameTicks outcome stores someBelow write fieldTooWide expanded expanded565 expanded5551 cut24 format Order.inOrder Order.reverseBytes Order.exchangeHalves Order.pixelBits shown storedPixel rowColour colour drawRow drawPicture colourInOrder judgeRow judgePicture judgeDrawing videoOff paletteWrong tooShort rowOutside judgeMemory outsideMemory wordOutside rowAddress firstWord
+unfolding rated depth pixels cuts expansions written judgementOf t1Row
 worked-cases = record { table = tt; width-1023 = Panel.width-1023; width-1024 = Panel.width-1024 }

@@ -1,5 +1,5 @@
 // The calls that draw: a pixel, a row, a picture, a stretch. Each is made with what is lent, and its answer held to what the line says
-// is due: the number of the refusal or 0, then the entries.
+// is due: the number of the refusal or 0, then the entries. A stretch judges nothing, so its answer is 0.
 use super::case::Case;
 use super::lent::lend_palette;
 use super::lent::lend_video;
@@ -19,6 +19,7 @@ use drawing::picture::draw_stretch;
 use drawing::pixel::Drawn;
 use drawing::pixel::draw_pixel;
 use drawing::row::draw_row;
+use memory::Screen;
 use registers::Loaded;
 use registers::Words;
 use registers::load;
@@ -38,34 +39,35 @@ fn drawn_agrees(case: Case, drawn: Drawn) -> bool {
 }
 
 // One pixel, drawn and through a reader.
-fn pixel_agrees(case: Case, w: Words, palette: &[u16], video: &[u32]) -> bool {
-    let lent = case.lent;
+fn pixel_agrees(case: Case, s: Screen, palette: &[u16], video: &[u32]) -> bool {
     let given = case.given;
     let place = Place {
         row: low_32(given.first),
         column: low_32(given.second),
     };
-    let drawn = draw_pixel(w, lent.start, video, palette, place.row, place.column);
-    let read = lookup_agrees(case, w, palette, video, place, drawn);
+    let drawn = draw_pixel(s, video, palette, place.row, place.column);
+    let read = lookup_agrees(case, s, palette, video, place, drawn);
     drawn_agrees(case, drawn) & read
 }
 
 fn draw(
     case: Case,
     shape: Shape,
-    w: Words,
+    s: Screen,
     palette: &[u16],
     video: &[u32],
     out: &mut [u32],
 ) -> u32 {
-    let lent = case.lent;
     let given = case.given;
     let second = low_32(given.second);
     let third = low_32(given.third);
     match shape {
-        Shape::Row => draw_row(w, lent.start, video, palette, second, out),
-        Shape::Stretch => draw_stretch(w, lent.start, video, palette, second, third, out),
-        _ => draw_picture(w, lent.start, video, palette, out),
+        Shape::Row => draw_row(s, video, palette, second, out),
+        Shape::Stretch => {
+            draw_stretch(s, video, palette, second, third, out);
+            0
+        }
+        _ => draw_picture(s, video, palette, out),
     }
 }
 
@@ -73,14 +75,14 @@ fn draw(
 fn draw_lent(
     case: Case,
     shape: Shape,
-    w: Words,
+    s: Screen,
     palette: &[u16],
     video: &[u32],
     out: &mut [u32],
 ) -> u32 {
     let given = case.given;
     let n = up_to(given.first, out);
-    draw(case, shape, w, palette, video, &mut out[..n])
+    draw(case, shape, s, palette, video, &mut out[..n])
 }
 
 // The entry at which what is due begins.
@@ -103,29 +105,33 @@ fn entries_drawn(
     text: &[u8],
     case: Case,
     shape: Shape,
-    w: Words,
+    s: Screen,
     palette: &[u16],
     video: &[u32],
 ) -> bool {
     let mut out = [0u32; 4096];
     prefill(&mut out);
-    let answer = draw_lent(case, shape, w, palette, video, &mut out);
+    let answer = draw_lent(case, shape, s, palette, video, &mut out);
     let right = outcome_agrees(text, case, shape, answer, &out);
     if answer != 0 {
         return right;
     }
-    drawing_read(case, shape, w, palette, video, &out) & right
+    drawing_read(case, shape, s, palette, video, &out) & right
 }
 
 fn drawn_of_words(text: &[u8], case: Case, shape: Shape, w: Words) -> bool {
     let lent = case.lent;
+    let s = Screen {
+        words: w,
+        window_start: lent.window_start,
+    };
     let mut palette = [0u16; 260];
     let n = lend_palette(text, lent, &mut palette);
     let mut video = [0u32; 40960];
     let m = lend_video(text, lent, &mut video);
     match shape {
-        Shape::Pixel => pixel_agrees(case, w, &palette[..n], &video[..m]),
-        _ => entries_drawn(text, case, shape, w, &palette[..n], &video[..m]),
+        Shape::Pixel => pixel_agrees(case, s, &palette[..n], &video[..m]),
+        _ => entries_drawn(text, case, shape, s, &palette[..n], &video[..m]),
     }
 }
 

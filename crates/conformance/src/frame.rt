@@ -17,7 +17,7 @@ use signals::clock::Clock;
 
 fn check_of(case: Case, words: &[u32], video: &[u32]) -> bool {
     let lent = case.lent;
-    answer_agrees(case, check(words, lent.start, video))
+    answer_agrees(case, check(words, lent.window_start, video))
 }
 
 pub(crate) fn check_agrees(text: &[u8], case: Case) -> bool {

@@ -15,7 +15,7 @@ pub(crate) struct Lent {
     pub palette: usize,
     pub video: usize,
     pub counted: bool,
-    pub start: u32,
+    pub window_start: u32,
     pub hclk: u32,
 }
 
@@ -27,7 +27,7 @@ pub(crate) fn nothing_lent(text: &[u8]) -> Lent {
         palette: end,
         video: end,
         counted: false,
-        start: 0,
+        window_start: 0,
         hclk: 0,
     }
 }
@@ -56,7 +56,7 @@ pub(crate) fn set(text: &[u8], at: usize, lent: Lent) -> Lent {
             l
         }
         4 => {
-            l.start = word_at(text, end, 0);
+            l.window_start = word_at(text, end, 0);
             l
         }
         5 => {

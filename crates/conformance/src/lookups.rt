@@ -7,6 +7,7 @@ use super::report::agrees;
 use super::text::low_32;
 use drawing::picture::pixels_of;
 use drawing::pixel::Drawn;
+use memory::Screen;
 use panel::geometry::width;
 use reader::read_pixel;
 use registers::Words;
@@ -28,14 +29,13 @@ fn number_of(d: Drawn) -> u64 {
 // Whether a reader gives for a pixel what the plain form gave.
 pub(crate) fn lookup_agrees(
     case: Case,
-    w: Words,
+    s: Screen,
     palette: &[u16],
     video: &[u32],
     place: Place,
     plain: Drawn,
 ) -> bool {
-    let lent = case.lent;
-    let read = read_pixel(w, lent.start, video, palette, place.row, place.column);
+    let read = read_pixel(s, video, palette, place.row, place.column);
     agrees(case, b"reader", number_of(read), number_of(plain))
 }
 
@@ -57,19 +57,19 @@ fn next_place(place: Place, wide: u32) -> Place {
 // Whether a reader gives each of these entries, which were drawn in reading order from the first column of a row on.
 fn entries_read(
     case: Case,
-    w: Words,
+    s: Screen,
     palette: &[u16],
     video: &[u32],
     row: u32,
     drawn: &[u32],
 ) -> bool {
-    let wide = width(w);
+    let wide = width(s.words);
     let mut place = Place { row, column: 0 };
     let mut right = true;
     let mut i = 0;
     while i < drawn.len() {
         let plain = Drawn::Colour(drawn[i]);
-        right = lookup_agrees(case, w, palette, video, place, plain) & right;
+        right = lookup_agrees(case, s, palette, video, place, plain) & right;
         place = next_place(place, wide);
         i += 1;
     }
@@ -97,11 +97,11 @@ fn first_row(case: Case, shape: Shape) -> u32 {
 pub(crate) fn drawing_read(
     case: Case,
     shape: Shape,
-    w: Words,
+    s: Screen,
     palette: &[u16],
     video: &[u32],
     out: &[u32],
 ) -> bool {
-    let n = up_to(drawn_from_the_first(shape, w), out);
-    entries_read(case, w, palette, video, first_row(case, shape), &out[..n])
+    let n = up_to(drawn_from_the_first(shape, s.words), out);
+    entries_read(case, s, palette, video, first_row(case, shape), &out[..n])
 }

@@ -87,7 +87,7 @@ fn begin_agrees(text: &[u8], case: Case, kept: Scan, video: &[u32]) -> Scan {
     let lent = case.lent;
     let mut nine = [0u32; 16];
     let n = lend_words(text, lent, &mut nine);
-    match start(&nine[..n], lent.start, video) {
+    match start(&nine[..n], lent.window_start, video) {
         Started::Ready(s) => moves(kept, answer_agrees(case, 0), s),
         Started::Refused(n) => stays(kept, answer_agrees(case, n)),
     }

@@ -1,5 +1,6 @@
 // A scan's state in a vector file: nine words, window start, pending LCDSADDR1 and 2, position, in this order.
 use super::text::word_at;
+use memory::Screen;
 use registers::Words;
 use scanout::state::State;
 use scanout::state::Viewport;
@@ -18,6 +19,14 @@ fn words_at(text: &[u8], at: usize) -> Words {
     }
 }
 
+fn screen_at(text: &[u8], at: usize) -> Screen {
+    let words = words_at(text, at);
+    Screen {
+        words,
+        window_start: word_at(text, at, 9),
+    }
+}
+
 fn pending_at(text: &[u8], at: usize) -> Viewport {
     Viewport {
         lcdsaddr1: word_at(text, at, 10),
@@ -27,11 +36,10 @@ fn pending_at(text: &[u8], at: usize) -> Viewport {
 
 // The state that a line's numbers from `at` on give.
 pub(crate) fn state_at(text: &[u8], at: usize) -> State {
-    let words = words_at(text, at);
+    let screen = screen_at(text, at);
     let pending = pending_at(text, at);
     State {
-        words,
-        window_start: word_at(text, at, 9),
+        screen,
         pending,
         position: word_at(text, at, 12),
     }
@@ -39,7 +47,8 @@ pub(crate) fn state_at(text: &[u8], at: usize) -> State {
 
 // The numbers of a state.
 pub(crate) fn numbers_of(s: State) -> [u32; 13] {
-    let w = s.words;
+    let screen = s.screen;
+    let w = screen.words;
     let v = s.pending;
     [
         w.lcdcon1,
@@ -51,7 +60,7 @@ pub(crate) fn numbers_of(s: State) -> [u32; 13] {
         w.lcdsaddr2,
         w.lcdsaddr3,
         w.tpal,
-        s.window_start,
+        screen.window_start,
         v.lcdsaddr1,
         v.lcdsaddr2,
         s.position,

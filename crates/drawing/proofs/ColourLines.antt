@@ -10,14 +10,16 @@ use Rattle.pixels.specs.Format.{format}
 use Rattle.pixels.specs.Pixel.{indexed, shown}
 use Rattle.pixels.specs.declared.format.Format.{Format}
 use Rattle.registers.specs.Fields.{tpalval}
-use Rattle.registers.specs.declared.Words.{Words}
 use Rattle.memory.specs.Memory.{firstWord}
-use Rattle.drawing.specs.Colour.{storedPixel, rowColour, colour}
+use Rattle.memory.specs.declared.Screen.{Screen}
+use Rattle.pixels.specs.declared.colours.Expansion.{Expansion}
+use Rattle.pixels.specs.declared.colours.Expansion.the-variants.{Rgb565, Rgb5551}
+use Rattle.drawing.specs.Colour.{Lent, storedPixel, rowColour, colour}
 
-expanded-lines : (b : Bool) (v : ℕ) → expanded b v < 2 ^ 24
+expanded-lines : (e : Expansion) (v : ℕ) → expanded e v < 2 ^ 24
 unfolding expanded expanded565 expanded5551
-expanded-lines true v = omega arith
-expanded-lines false v = omega arith
+expanded-lines Rgb565 v = omega arith
+expanded-lines Rgb5551 v = omega arith
 
 cut-lines : (b : Bool) (v : ℕ) → cut24 b v < 2 ^ 24
 unfolding cut24
@@ -29,18 +31,21 @@ unfolding shown
 shown-lines f palette v = go (eqb (f .bits) 32) (eqb (f .bits) 16)
   where
     go : (a b : Bool)
-        → cond a (cut24 (f .bpp24bl) v) (cond b (expanded (f .frm565) v) (expanded (f .frm565) (getD palette v 0))) < 2 ^ 24
+        → cond a (cut24 (f .bpp24bl) v) (cond b (expanded (f .expansion) v) (expanded (f .expansion) (getD palette v 0))) < 2 ^ 24
     go true b = cut-lines (f .bpp24bl) v
-    go false true = expanded-lines (f .frm565) v
-    go false false = expanded-lines (f .frm565) (getD palette v 0)
+    go false true = expanded-lines (f .expansion) v
+    go false false = expanded-lines (f .expansion) (getD palette v 0)
 
-pub colour-lines : (w : Words) (start : ℕ) (memory palette : List ℕ) (r c : ℕ) → colour w start memory palette r c < 2 ^ 24
+pub colour-lines : (s : Screen) (l : Lent) (r c : ℕ) → colour s l r c < 2 ^ 24
 unfolding colour rowColour format
-colour-lines w start memory palette r c = go (format w .tpalen)
+colour-lines s l r c = go (f .tpalen)
   where
-    stored : ℕ
-    stored = storedPixel (format w .bits) (format w .bswp) (format w .hwswp) memory (firstWord w start r) c
+    f : Format
+    f = format (s .words)
 
-    go : (b : Bool) → cond b (tpalval w) (shown (format w) (indexed (format w) palette) stored) < 2 ^ 24
+    stored : ℕ
+    stored = storedPixel (f .bits) (f .bswp) (f .hwswp) (l .memory) (firstWord s r) c
+
+    go : (b : Bool) → cond b (tpalval (s .words)) (shown f (indexed f (l .palette)) stored) < 2 ^ 24
     go true = omega arith
-    go false = shown-lines (format w) palette stored
+    go false = shown-lines f (l .palette) stored

@@ -1,22 +1,23 @@
--- What a format that 1 to 7 let pass gives (document 01, "Where a pixel lies"): its size, its swaps, and how many pixels a word
+-- What a format gives (document 01, "Where a pixel lies"): its size, its swaps, and how many pixels a word
 -- holds. Assumes nothing.
-use mathlib.Core.Bool.{Bool, true, false, _||_}
+use mathlib.Core.Bool.{Bool, true, false, cond, _||_, true≢false}
 use mathlib.Core.List.{List, [], _∷_}
 use mathlib.Core.Path.{_≡_, refl, sym, ap, ap₂, _∙_}
 use Prim.Native.Nat.{ℕ, zero, suc, _+_, _-_, _*_, _/_, _%_, _^_, _<_, _≤_}
-use native.Mathlib.Decide.{ℕ-discrete}
+use native.Mathlib.Decide.{ℕ-discrete, decLt}
 use native.Mathlib.Nat.{mod-lt, mul-div-mul-right, mul-div-cancel, mul-assoc, mul-comm, add-mul, div-add-mod', mul-zero, mul-lt-mul-of-pos-right, div-lt-iff-lt-mul, lt-of-lt-of-le, mul-mod-left, mul-sub, mul-le-mul-left, mul-one, le-trans, le-of-mul-le-mul-right, add-mul-div-right, add-mul-mod-self-right, div-mul-le-self}
 use native.Mathlib.Omega.{arith}
-use borrow.Author.Tests.{eqb-true, eq-eqb, ne-eqb}
+use borrow.Author.Tests.{eqb-true, eq-eqb, ne-eqb, le-leb}
 use lib.Arith.{digits-mod}
 use lib.Dec.{T, eqb, ltb, leb, eqb→eq, leb→le, ltb→lt}
 use lib.ListN.{length, getD}
 use Rattle.laws.specs.Storing.{stores}
 use Rattle.laws.specs.StoringLaws.{stores-as}
 use Rattle.laws.specs.TableLaws.{every}
+use Rattle.panel.specs.Geometry.{storedBits, outsideModes}
 use Rattle.panel.specs.Refusals.{judge}
 use Rattle.panel.proofs.Accepted.{accepted-words, bswp-legal, hwswp-legal}
-use Rattle.panel.proofs.Modes.{size-passes}
+use Rattle.panel.proofs.Modes.{size-passes, stored-bits-pos}
 use Rattle.pixels.specs.Colours.{expanded, cut24}
 use Rattle.pixels.specs.Format.{format}
 use Rattle.pixels.specs.Pixel.{indexed, shown}
@@ -26,27 +27,34 @@ use Rattle.registers.specs.declared.Words.{Words}
 use Rattle.pixels.specs.Order.{inOrder, pixelBits}
 use Rattle.pixels.proofs.PixelOrder.{pixel-past}
 use Rattle.drawing.specs.Colour.{storedPixel, rowColour}
-use Rattle.drawing.specs.Core.{Legal, Expanded, Fits, InRow}
-use Rattle.drawing.proofs.Pixels.{pixel-inside}
+use Rattle.drawing.specs.Core.{Sized, Stores, Legal, lookedUp, Expanded, Fits}
+use Rattle.drawing.proofs.Pixels.{pixel-inside, stored-lt}
 
--- ---- the six sizes
+-- ---- the six sizes, and none
 
-module _ (f : Format) (l : Legal f) where
+-- a mode that stores some bits is one of the six
+some-mode : (mode : ℕ) → 0 < storedBits mode → outsideModes mode ≡ false
+unfolding storedBits
+some-mode mode = go (outsideModes mode)
+  where
+    go : (b : Bool) → 0 < cond b 0 (getD (1 ∷ 2 ∷ 4 ∷ 8 ∷ 16 ∷ 32 ∷ []) (mode - 8) 0) → b ≡ false
+    go true h = absurd (omega arith)
+    go false h = refl
+
+module _ (f : Format) (l : Stores f) where
   -- what holds of each size holds of the format's
   passes : (p : ℕ → Bool) → T (every p (1 ∷ 2 ∷ 4 ∷ 8 ∷ 16 ∷ 32 ∷ [])) → T (p (f .bits))
-  passes p t = rw (l .size) (size-passes p t (l .mode) (l .inside))
-
-  pub bits-pos : 0 < f .bits
-  bits-pos = ltb→lt 0 (f .bits) (passes (λ s. ltb 0 s) tt)
-
-  pub bits-le : f .bits ≤ 32
-  bits-le = leb→le (f .bits) 32 (passes (λ s. leb s 32) tt)
+  passes p t =
+      rw (l .sized .size) (size-passes p t (l .sized .mode) (some-mode (l .sized .mode) (rw (l .sized .size) at (l .some))))
 
   pub bits-fill : f .bits * (32 / f .bits) ≡ 32
   bits-fill = eqb→eq (f .bits * (32 / f .bits)) 32 (passes (λ s. eqb (s * (32 / s)) 32) tt)
 
-  pub index-bits : (f .bits ≡ 32 → ⊥) → (f .bits ≡ 16 → ⊥) → f .bits ≤ 8
-  index-bits a b =
+  few-bits : f .bits ≤ 32
+  few-bits = leb→le (f .bits) 32 (passes (λ s. leb s 32) tt)
+
+  some-index-bits : (f .bits ≡ 32 → ⊥) → (f .bits ≡ 16 → ⊥) → f .bits ≤ 8
+  some-index-bits a b =
       leb→le (f .bits) 8
       (rw (ne-eqb (f .bits) 32 a, ne-eqb (f .bits) 16 b) at (passes (λ s. eqb s 32 || (eqb s 16 || leb s 8)) tt))
 
@@ -64,8 +72,39 @@ module _ (f : Format) (l : Legal f) where
       )
       at (passes (λ s. eqb s 1 || (eqb s 2 || (eqb s 4 || (eqb s 8 || (eqb s 16 || eqb s 32))))) tt))
 
-  -- ---- the swaps
+module _ (f : Format) (l : Sized f) where
+  pub bits-le : f .bits ≤ 32
+  bits-le = go (decLt 0 (f .bits))
+    where
+      go : Dec (0 < f .bits) → f .bits ≤ 32
+      go (yes h) = few-bits f (record { sized = l; some = h })
+      go (no n) = omega arith
 
+  pub index-bits : (f .bits ≡ 32 → ⊥) → (f .bits ≡ 16 → ⊥) → f .bits ≤ 8
+  index-bits a b = go (decLt 0 (f .bits))
+    where
+      go : Dec (0 < f .bits) → f .bits ≤ 8
+      go (yes h) = some-index-bits f (record { sized = l; some = h }) a b
+      go (no n) = omega arith
+
+-- whatever the words, their format is one of these
+pub sized-format : (w : Words) → Sized (format w)
+unfolding format
+sized-format w = record { mode = Fields.bppmode w; size = refl }
+
+-- and that of words that 1 to 7 accept is legal
+pub legal-format : (w : Words) → judge w ≡ 0 → Legal (format w)
+unfolding format
+legal-format w e =
+    record {
+      stores = record { sized = sized-format w; some = stored-bits-pos (Fields.bppmode w) (accepted-words w e .mode) };
+      bytes = λ t. bswp-legal w (accepted-words w e) (eqb-true (Fields.bswp w) 1 t);
+      halves = λ t. hwswp-legal w (accepted-words w e) (eqb-true (Fields.hwswp w) 1 t);
+    }
+
+-- ---- the swaps
+
+module _ (f : Format) (l : Legal f) where
   pub no-bytes : 8 < f .bits → f .bswp ≡ false
   no-bytes h = go (f .bswp) refl
     where
@@ -80,18 +119,6 @@ module _ (f : Format) (l : Legal f) where
       go true e = absurd (ne (l .halves e))
       go false e = e
 
--- words that 1 to 7 accept have such a format
-pub legal-format : (w : Words) → judge w ≡ 0 → Legal (format w)
-unfolding format
-legal-format w e =
-    record {
-      mode = Fields.bppmode w;
-      inside = accepted-words w e .mode;
-      size = refl;
-      bytes = λ t. bswp-legal w (accepted-words w e) (eqb-true (Fields.bswp w) 1 t);
-      halves = λ t. hwswp-legal w (accepted-words w e) (eqb-true (Fields.hwswp w) 1 t);
-    }
-
 -- ---- what stored bits show, by size
 
 module _ (f : Format) (colours : ℕ → ℕ) (v : ℕ) where
@@ -99,7 +126,7 @@ module _ (f : Format) (colours : ℕ → ℕ) (v : ℕ) where
   unfolding shown
   shown-at-32 e = rw (eq-eqb (f .bits) 32 e)
 
-  pub shown-at-16 : f .bits ≡ 16 → shown f colours v ≡ expanded (f .frm565) v
+  pub shown-at-16 : f .bits ≡ 16 → shown f colours v ≡ expanded (f .expansion) v
   unfolding shown
   shown-at-16 e = rw (ne-eqb (f .bits) 32 (λ z. omega arith), eq-eqb (f .bits) 16 e)
 
@@ -107,22 +134,40 @@ module _ (f : Format) (colours : ℕ → ℕ) (v : ℕ) where
   unfolding shown
   shown-below a b = rw (ne-eqb (f .bits) 32 a, ne-eqb (f .bits) 16 b)
 
--- no table is needed where pixels are no indices
-pub no-table : (f : Format) (palette table : List ℕ) → 8 < f .bits → Expanded f palette table
-no-table f palette table h = record { room = λ l. absurd (omega arith); entry = λ v l b. absurd (omega arith) }
+-- no table is needed where nothing is looked up
+pub no-table : (f : Format) (palette table : List ℕ) → lookedUp f ≡ false → Expanded f palette table
+no-table f palette table e =
+    record { room = λ off few. absurd (hides off few); entry = λ off v few h. absurd (hides off few) }
+  where
+    hides : f .tpalen ≡ false → f .bits ≤ 8 → ⊥
+    hides off few = true≢false (sym (rw (le-leb (f .bits) 8 few, off) refl) ∙ e)
 
 -- by the table as by the palette
-pub shown-by-table : (f : Format) → Legal f → (palette table : List ℕ) → Expanded f palette table → (v : ℕ) → v < 2 ^ f .bits
-    → shown f (λ i. getD table i 0) v ≡ shown f (indexed f palette) v
-shown-by-table f l palette table e v h = go (ℕ-discrete (f .bits) 32) (ℕ-discrete (f .bits) 16)
+shown-by-table : (f : Format) → Sized f → (palette table : List ℕ) → Expanded f palette table → f .tpalen ≡ false → (v : ℕ)
+    → v < 2 ^ f .bits → shown f (λ i. getD table i 0) v ≡ shown f (indexed f palette) v
+shown-by-table f l palette table e off v h = go (ℕ-discrete (f .bits) 32) (ℕ-discrete (f .bits) 16)
   where
     go : Dec (f .bits ≡ 32) → Dec (f .bits ≡ 16) → shown f (λ i. getD table i 0) v ≡ shown f (indexed f palette) v
     go (yes a) b = shown-at-32 f (λ i. getD table i 0) v a ∙ sym (shown-at-32 f (indexed f palette) v a)
     go (no a) (yes b) = shown-at-16 f (λ i. getD table i 0) v b ∙ sym (shown-at-16 f (indexed f palette) v b)
     go (no a) (no b) =
         shown-below f (λ i. getD table i 0) v a b
-        ∙ e .entry v (index-bits f l a b) h
+        ∙ e .entry off v (index-bits f l a b) h
         ∙ sym (shown-below f (indexed f palette) v a b)
+
+pub row-by-table : (f : Format) → Sized f → (palette table : List ℕ) → Expanded f palette table → (memory : List ℕ) (base c : ℕ)
+    → rowColour f (λ v. getD table v 0) memory base c ≡ rowColour f (indexed f palette) memory base c
+unfolding rowColour
+row-by-table f l palette table e memory base c = go (f .tpalen) refl
+  where
+    stored : ℕ
+    stored = storedPixel (f .bits) (f .bswp) (f .hwswp) memory base c
+
+    go : (b : Bool) → f .tpalen ≡ b
+        → cond b (f .tpalval) (shown f (λ v. getD table v 0) stored) ≡ cond b (f .tpalval) (shown f (indexed f palette) stored)
+    go true on = refl
+    go false off =
+        shown-by-table f l palette table e off stored (stored-lt (f .bits) (f .bswp) (f .hwswp) memory base c)
 
 -- ---- columns and words, at s bits a pixel
 
@@ -154,28 +199,8 @@ module _ (s : ℕ) (pos : 0 < s) (fill : s * (32 / s) ≡ 32) where
 
 -- ---- a pixel in its row
 
-pub row-shorter : (f : Format) (memory : List ℕ) (base end : ℕ) → InRow f memory base end → (e : ℕ) → e ≤ end → InRow f memory base e
-row-shorter f memory base end row e h =
-    record {
-      words = row .words;
-      inside = row .inside;
-      covered = le-trans h (row .covered);
-      short = le-trans h (row .short);
-    }
-
--- its word lies in the memory
-pub word-inside : (f : Format) → Legal f → (memory : List ℕ) (base end c : ℕ) → InRow f memory base end → c < end
-    → base + c * f .bits / 32 < length memory
-word-inside f l memory base end c row h =
-    omega (
-      arith,
-      row .inside,
-      word-of-bit (f .bits) (bits-pos f l) (bits-fill f l) c,
-      div-lt-iff-lt-mul {k = 32 / f .bits} {x = c} {y = row .words} (per-word-pos (f .bits) (bits-pos f l) (bits-fill f l)) .1 (lt-of-lt-of-le h (row .covered)),
-    )
-
--- and its stored bits are cut from it
-pub cut-pixel : (f : Format) → Legal f → (memory : List ℕ) (base c x v : ℕ)
+-- its stored bits are cut from its word
+pub cut-pixel : (f : Format) → Stores f → (memory : List ℕ) (base c x v : ℕ)
     → x ≡ inOrder (f .bswp) (f .hwswp) (getD memory (base + c * f .bits / 32) 0)
     → v ≡ x / 2 ^ (32 - (c * f .bits % 32 + f .bits)) % 2 ^ f .bits
     → v ≡ storedPixel (f .bits) (f .bswp) (f .hwswp) memory base c
@@ -183,32 +208,42 @@ unfolding storedPixel
 cut-pixel f l memory base c x v e e′ =
     e′
     ∙ pixel-past (f .bits) (c % (32 / f .bits)) (c * f .bits % 32) x
-    (past-in-word (f .bits) (bits-pos f l) (bits-fill f l) c ∙ mul-comm (c % (32 / f .bits)) (f .bits))
+    (past-in-word (f .bits) (l .some) (bits-fill f l) c ∙ mul-comm (c % (32 / f .bits)) (f .bits))
     ∙ ap (λ (y : ℕ). pixelBits (f .bits) y (c % (32 / f .bits)))
     (e
     ∙ ap (λ (i : ℕ). inOrder (f .bswp) (f .hwswp) (getD memory (base + i) 0))
-    (word-of-bit (f .bits) (bits-pos f l) (bits-fill f l) c))
+    (word-of-bit (f .bits) (l .some) (bits-fill f l) c))
+
+-- where none are stored they are 0
+pub none-stored-bits : (f : Format) (memory : List ℕ) (base c : ℕ) → f .bits ≡ 0
+    → 0 ≡ storedPixel (f .bits) (f .bswp) (f .hwswp) memory base c
+none-stored-bits f memory base c e =
+    omega (
+      arith,
+      stored-lt 0 (f .bswp) (f .hwswp) memory base c,
+      ap (λ (s : ℕ). storedPixel s (f .bswp) (f .hwswp) memory base c) e,
+    )
 
 -- the bits end inside the word
-pub cut-inside : (f : Format) → Legal f → (c : ℕ) → c * f .bits % 32 + f .bits ≤ 32
+pub cut-inside : (f : Format) → Stores f → (c : ℕ) → c * f .bits % 32 + f .bits ≤ 32
 cut-inside f l c =
     omega (
       arith,
-      past-in-word (f .bits) (bits-pos f l) (bits-fill f l) c,
+      past-in-word (f .bits) (l .some) (bits-fill f l) c,
       mul-comm (c % (32 / f .bits)) (f .bits),
       pixel-inside (f .bits) (c % (32 / f .bits)) (bits-fill f l)
-          (mod-lt c (per-word-pos (f .bits) (bits-pos f l) (bits-fill f l))),
+          (mod-lt c (per-word-pos (f .bits) (l .some) (bits-fill f l))),
     )
 
 -- ---- its colour
 
-module _ (f : Format) (memory palette : List ℕ) (base c : ℕ) where
-  pub temporary-colour : f .tpalen ≡ true → rowColour f memory palette base c ≡ f .tpalval
+module _ (f : Format) (colours : ℕ → ℕ) (memory : List ℕ) (base c : ℕ) where
+  pub temporary-colour : f .tpalen ≡ true → rowColour f colours memory base c ≡ f .tpalval
   unfolding rowColour
   temporary-colour e = rw e
 
   pub shown-colour : f .tpalen ≡ false
-      → rowColour f memory palette base c ≡ shown f (indexed f palette) (storedPixel (f .bits) (f .bswp) (f .hwswp) memory base c)
+      → rowColour f colours memory base c ≡ shown f colours (storedPixel (f .bits) (f .bswp) (f .hwswp) memory base c)
   unfolding rowColour
   shown-colour e = rw e
 
@@ -269,11 +304,30 @@ from-word s pos bswp hwswp memory base a j e =
     past : (a + j) % (32 / s) ≡ j % (32 / s)
     past = ap (λ (n : ℕ). n % (32 / s)) whole-words ∙ add-mul-mod-self-right j (a / (32 / s)) (32 / s)
 
--- words before a column and words after it, of a row of so many
-pub words-inside : (q words a b : ℕ) → 0 < q → a + b ≤ words * q → a / q + b / q ≤ words
-words-inside q words a b pos h =
-    le-of-mul-le-mul-right {m = a / q + b / q} {n = words} {k = q}
-    (omega (arith, add-mul (a / q) (b / q) q, div-mul-le-self a q, div-mul-le-self b q)) pos
+-- so many of the words that n pixels fill, and the pixels past them
+module _ (s : ℕ) (pos : 0 < s) (fill : s * (32 / s) ≡ 32) (n words : ℕ) (some : words ≤ n * s / 32) where
+  pub word-bits-le : words * 32 ≤ n * s
+  word-bits-le = omega (arith, some)
+
+  word-bits : words * 32 ≡ words * (32 / s) * s
+  word-bits = ap (λ (k : ℕ). words * k) (sym (whole s pos fill)) ∙ sym (mul-assoc words (32 / s) s)
+
+  pub word-pixels-le : words * (32 / s) ≤ n
+  word-pixels-le = le-of-mul-le-mul-right {m = words * (32 / s)} {n = n} {k = s} (omega (arith, word-bits-le, word-bits)) pos
+
+  pub pixels-past : (n * s - words * 32) / s ≡ n - words * (32 / s)
+  pixels-past =
+      ap (λ (k : ℕ). k / s) (ap (λ (k : ℕ). n * s - k) word-bits ∙ sym difference)
+      ∙ mul-div-cancel (n - words * (32 / s)) pos
+    where
+      difference : (n - words * (32 / s)) * s ≡ n * s - words * (32 / s) * s
+      difference =
+          mul-comm (n - words * (32 / s)) s
+          ∙ mul-sub s n (words * (32 / s))
+          ∙ ap₂ (λ (i j : ℕ). i - j) (mul-comm s n) (mul-comm s (words * (32 / s)))
+
+  pub no-pixel-past : n * s - words * 32 ≡ 0 → n ≤ words * (32 / s)
+  no-pixel-past e = le-of-mul-le-mul-right {m = n} {n = words * (32 / s)} {k = s} (omega (arith, e, word-bits)) pos
 
 -- ---- the arms of a match on the size
 
@@ -305,13 +359,13 @@ module _ (f : Format) (l : Legal f) (table memory : List ℕ) (from s : ℕ) (e 
         (λ z. omega arith) (λ z. omega arith)))
 
     pub halves-expanded : s ≡ 16
-        → left ≡ stores (λ j. expanded (f .frm565) (storedPixel s false (f .hwswp) memory from j)) at (n * (32 / s)) out
+        → left ≡ stores (λ j. expanded (f .expansion) (storedPixel s false (f .hwswp) memory from j)) at (n * (32 / s)) out
         → left ≡ stores (λ j. shown f (λ v. getD table v 0) (storedPixel (f .bits) (f .bswp) (f .hwswp) memory from j)) at (n * (32 / f .bits)) out
     unfolding words-shown
     halves-expanded z w =
-        as-shown (λ j. expanded (f .frm565) (storedPixel s false (f .hwswp) memory from j)) w
+        as-shown (λ j. expanded (f .expansion) (storedPixel s false (f .hwswp) memory from j)) w
         (λ j.
-        ap (expanded (f .frm565)) (same-pixel j false (f .hwswp) (no-bytes f l (omega arith)) refl)
+        ap (expanded (f .expansion)) (same-pixel j false (f .hwswp) (no-bytes f l (omega arith)) refl)
         ∙ sym (shown-at-16 f (λ v. getD table v 0) (storedPixel (f .bits) (f .bswp) (f .hwswp) memory from j) (e ∙ z)))
 
     pub words-cut : s ≡ 32

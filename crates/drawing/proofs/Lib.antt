@@ -1,6 +1,7 @@
 pub mod ColourLines
 pub mod Formats
-pub mod LentMemory
+pub mod Judged
+pub mod Numbers
 pub mod Parts
 pub mod Pixels
 pub mod Rows

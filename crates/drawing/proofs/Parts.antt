@@ -1,120 +1,129 @@
--- A stretch of a row in three parts: single pixels up to the next word, whole words, and the rest (document 01, "Where a pixel
--- lies"). Assumes nothing.
+-- Pixels that fill whole words of a row, and a stretch of the picture in three parts (document 01, "Where a pixel lies"). Assumes
+-- nothing.
 use mathlib.Core.Bool.{false}
 use mathlib.Core.List.{List}
-use mathlib.Core.Path.{_≡_, sym, ap, _∙_}
-use Prim.Native.Nat.{ℕ, min, _+_, _-_, _*_, _/_, _%_, _^_, _<_, _≤_}
-use native.Mathlib.Nat.{add-assoc, div-add-mod'}
+use mathlib.Core.Path.{_≡_, sym, ap, _∙_, subst}
+use Prim.Native.Nat.{ℕ, min, _+_, _-_, _*_, _/_, _%_, _^_, _<_, _≤_, _∣_}
+use native.Mathlib.Decide.{decLt}
+use native.Mathlib.Nat.{div-mul-cancel, mod-eq-zero-of-dvd, dvd-of-mod-eq-zero, dvd-refl, dvd-add, dvd-sub, dvd-mul-left-of-dvd, div-add-mod', le-of-mul-le-mul-right, add-mul}
 use native.Mathlib.Omega.{arith}
 use lib.ListN.{length, getD}
 use Rattle.laws.specs.ProductLaws.{product-le}
 use Rattle.laws.specs.Storing.{stores}
-use Rattle.laws.specs.StoringLaws.{Stored, none-stored, some-more, all-stored}
-use Rattle.pixels.specs.Pixel.{indexed, shown}
+use Rattle.laws.specs.StoringLaws.{Stored, none-stored, some-more, all-stored, stores-as}
+use Rattle.panel.specs.Geometry.{width, height}
+use Rattle.pixels.specs.Format.{format}
+use Rattle.pixels.specs.Pixel.{shown}
 use Rattle.pixels.specs.declared.format.Format.{Format}
+use Rattle.memory.specs.Memory.{firstWord}
+use Rattle.memory.specs.declared.Screen.{Screen}
 use Rattle.drawing.specs.Colour.{storedPixel, rowColour}
-use Rattle.drawing.specs.Core.{Columns}
-use Rattle.drawing.proofs.Formats.{bits-pos, bits-le, bits-fill, per-word-pos, word-of-bit, from-word, words-inside, shown-by-table, shown-colour}
-use Rattle.drawing.proofs.Pixels.{stored-lt}
+use Rattle.drawing.specs.Core.{perWord, Columns, InMemory, ByRows, columnsStored}
+use Rattle.drawing.proofs.Formats.{bits-le, bits-fill, per-word-pos, word-of-bit, from-word, shown-colour}
 
--- n pixels from a column on: `head` of them before the next word, which is t columns on, and `tail` past the last whole word
-pub record Split (f : Format) (video : List ℕ) (base : ℕ) (palette table : List ℕ) (column n head tail : ℕ) : Type 0 where
-  pub cols : Columns f video base palette table (column + n)
-  pub t : ℕ
-  pub aligned : (column + t) % (32 / f .bits) ≡ 0
-  pub first : head ≡ min t n
-  pub last : tail ≡ (n - head) % (32 / f .bits)
+-- ---- columns
 
-module _
-    (f : Format)
-    (video : List ℕ)
-    (base : ℕ)
-    (palette table : List ℕ)
-    (column n head tail : ℕ)
-    (s : Split f video base palette table column n head tail) where
-  q-pos : 0 < 32 / f .bits
-  q-pos = per-word-pos (f .bits) (bits-pos f (s .cols .legal)) (bits-fill f (s .cols .legal))
+-- what whole words from one on show
+abbrev pub wordsShown : Format → List ℕ → List ℕ → ℕ → ℕ → ℕ
+wordsShown f table memory from j = shown f (λ v. getD table v 0) (storedPixel (f .bits) (f .bswp) (f .hwswp) memory from j)
 
-  word : (c : ℕ) → c * f .bits / 32 ≡ c / (32 / f .bits)
-  word = word-of-bit (f .bits) (bits-pos f (s .cols .legal)) (bits-fill f (s .cols .legal))
+module _ (f : Format) (memory table : List ℕ) (base column n : ℕ) (c : Columns f memory table base column n) where
+  q-pos : 0 < perWord f
+  q-pos = per-word-pos (f .bits) (c .legal .stores .some) (bits-fill f (c .legal .stores))
 
-  pub head-le : head ≤ n
-  head-le = omega (arith, s .first)
+  pub word : (k : ℕ) → k * f .bits / 32 ≡ k / perWord f
+  word = word-of-bit (f .bits) (c .legal .stores .some) (bits-fill f (c .legal .stores))
 
-  -- the bits of any part are few
-  pub bits-few : (c : ℕ) → c ≤ column + n → c * f .bits ≤ 2048 * 32
-  bits-few c h = product-le c 2048 (f .bits) 32 (omega (arith, s .cols .row .short)) (bits-le f (s .cols .legal))
+  -- their bits are few
+  pub bits-few : (k : ℕ) → k ≤ column + n → k * f .bits ≤ 2048 * 32
+  bits-few k h = product-le k 2048 (f .bits) 32 (omega (arith, c .short)) (bits-le f (c .legal .stores .sized))
 
-  -- whole words and the rest make up what the first part leaves
-  pub rest-in-words : (n - head) * f .bits / 32 * (32 / f .bits) + tail ≡ n - head
-  rest-in-words =
+  pub pixels-of-words : n * f .bits / 32 * perWord f ≡ n
+  pixels-of-words = ap (λ (k : ℕ). k * perWord f) (word n) ∙ div-mul-cancel (perWord f) (c .lent .whole)
+
+  pub words-lent : n * f .bits / 32 ≤ length memory - (base + column * f .bits / 32)
+  words-lent = omega (arith, word n, word column, c .lent .inside)
+
+  pub columns-drawn : f .tpalen ≡ false → (at : ℕ) (out left : List ℕ)
+      → left ≡ stores (wordsShown f table memory (base + column * f .bits / 32)) at (n * f .bits / 32 * perWord f) out
+      → left ≡ columnsStored f table memory base column n at out
+  columns-drawn off at out left e =
+      e ∙ stores-as _ (λ i. rowColour f (λ v. getD table v 0) memory base (column + i)) at _ n out pixels-of-words (λ j h. its-colour j)
+    where
+      its-colour : (j : ℕ)
+          → wordsShown f table memory (base + column * f .bits / 32) j ≡ rowColour f (λ v. getD table v 0) memory base (column + j)
+      its-colour j =
+          ap (shown f (λ v. getD table v 0))
+          (ap (λ (k : ℕ). storedPixel (f .bits) (f .bswp) (f .hwswp) memory (base + k) j) (word column)
+          ∙ from-word (f .bits) q-pos (f .bswp) (f .hwswp) memory base column j (mod-eq-zero-of-dvd (perWord f) (c .begins)))
+          ∙ sym (shown-colour f (λ v. getD table v 0) memory base (column + j) off)
+
+-- ---- a turn of rows
+
+pub dvd-min : (q a b : ℕ) → q ∣ a → q ∣ b → q ∣ min a b
+dvd-min q a b d e = go (decLt a b)
+  where
+    go : Dec (a < b) → q ∣ min a b
+    go (yes h) = subst (λ (k : ℕ). q ∣ k) (omega arith) d
+    go (no h) = subst (λ (k : ℕ). q ∣ k) (omega arith) e
+
+-- words before a column and words after it, of a row of so many pixels
+words-add : (q a b wide : ℕ) → 0 < q → q ∣ a → q ∣ b → q ∣ wide → a + b ≤ wide → a / q + b / q ≤ wide / q
+words-add q a b wide pos d e w h =
+    le-of-mul-le-mul-right {m = a / q + b / q} {n = wide / q} {k = q}
+    (omega (arith, add-mul (a / q) (b / q) q, div-mul-cancel q d, div-mul-cancel q e, div-mul-cancel q w)) pos
+
+module _ (s : Screen) (lent : ℕ) (rows : ByRows s lent) where
+  q : ℕ
+  q = perWord (format (s .words))
+
+  some-per-word : 0 < q
+  unfolding q
+  some-per-word =
+      per-word-pos (format (s .words) .bits) (rows .legal .stores .some) (bits-fill (format (s .words)) (rows .legal .stores))
+
+  pub part-lent : (r column n : ℕ) → r < height (s .words) → perWord (format (s .words)) ∣ column → perWord (format (s .words)) ∣ n
+      → column + n ≤ width (s .words)
+      → firstWord s r + column / perWord (format (s .words)) + n / perWord (format (s .words)) ≤ lent
+  unfolding q
+  part-lent r column n h d e fits =
       omega (
         arith,
-        s .last,
-        div-add-mod' (n - head) (32 / f .bits),
-        ap (λ (k : ℕ). k * (32 / f .bits)) (word (n - head)),
+        rows .inside r h,
+        words-add (perWord (format (s .words))) column n (width (s .words)) some-per-word d e (rows .whole) fits,
       )
 
-  pub words-lie-inside : base + (column + head) * f .bits / 32 + (n - head) * f .bits / 32 ≤ length video
-  words-lie-inside =
-      omega (
-        arith,
-        word (column + head),
-        word (n - head),
-        s .cols .row .inside,
-        words-inside (32 / f .bits) (s .cols .row .words) (column + head) (n - head) q-pos
-            (omega (arith, s .cols .row .covered, head-le)),
-      )
+-- ---- a stretch
 
-  -- where there is a whole word, the first part ends with one
-  begins : (j : ℕ) → j < (n - head) * f .bits / 32 * (32 / f .bits) → (column + head) % (32 / f .bits) ≡ 0
-  begins j h = ap (λ (k : ℕ). (column + k) % (32 / f .bits)) (omega (arith, rest-in-words, s .first)) ∙ s .aligned
+-- where it goes on by rows: t pixels on from one in this column, a word begins
+pub word-begins : (q wide first t : ℕ) → q ∣ wide → (first % wide + t) % q ≡ 0 → q ∣ first + t
+word-begins q wide first t w e =
+    subst (λ (k : ℕ). q ∣ k) (omega (arith, div-add-mod' first wide))
+    (dvd-add q (dvd-mul-left-of-dvd q w (first / wide)) (dvd-of-mod-eq-zero q e))
 
-  word-colour : f .tpalen ≡ false → (j : ℕ) → j < (n - head) * f .bits / 32 * (32 / f .bits)
-      → shown f (λ v. getD table v 0) (storedPixel (f .bits) (f .bswp) (f .hwswp) video (base + (column + head) * f .bits / 32) j)
-      ≡ rowColour f video palette base (column + (head + j))
-  word-colour off j h =
-      shown-by-table f (s .cols .legal) palette table (s .cols .expanded) v below
-      ∙ ap (shown f (indexed f palette)) same
-      ∙ sym (shown-colour f video palette base (column + (head + j)) off)
-    where
-      v : ℕ
-      v = storedPixel (f .bits) (f .bswp) (f .hwswp) video (base + (column + head) * f .bits / 32) j
+-- what is left without the pixels past the last word
+pub words-left : (q n : ℕ) → q ∣ n - n % q
+words-left q n = subst (λ (k : ℕ). q ∣ k) (omega (arith, div-add-mod' n q)) (dvd-mul-left-of-dvd q (dvd-refl q) (n / q))
 
-      below : v < 2 ^ f .bits
-      below = stored-lt (f .bits) (f .bswp) (f .hwswp) video (base + (column + head) * f .bits / 32) j
+-- its three parts are the whole
+pub three-parts : (g : ℕ → ℕ) (first head n tail : ℕ) (out one two three : List ℕ) → head + tail ≤ n
+    → one ≡ stores (λ k. g (first + k)) first head out
+    → two ≡ stores (λ k. g (first + head + k)) (first + head) (n - head - tail) one
+    → three ≡ stores (λ k. g (first + (n - tail) + k)) (first + (n - tail)) tail two
+    → three ≡ stores (λ k. g (first + k)) first n out
+three-parts g first head n tail out one two three fits e₁ e₂ e₃ = all-stored h first out three _ third n (omega arith)
+  where
+    h : ℕ → ℕ
+    h k = g (first + k)
 
-      same : v ≡ storedPixel (f .bits) (f .bswp) (f .hwswp) video base (column + (head + j))
-      same =
-          ap (λ (k : ℕ). storedPixel (f .bits) (f .bswp) (f .hwswp) video (base + k) j) (word (column + head))
-          ∙ from-word (f .bits) q-pos (f .bswp) (f .hwswp) video base (column + head) j (begins j h)
-          ∙ ap (storedPixel (f .bits) (f .bswp) (f .hwswp) video base) (add-assoc column head j)
+    start : Stored h first out one (0 + head)
+    start = some-more h first out out 0 (none-stored h first out) h first head one e₁ (omega arith) (λ i l. ap h (omega arith))
 
-  pub drawn-in-parts : f .tpalen ≡ false → (at : ℕ) (out one two three : List ℕ)
-      → one ≡ stores (λ i. rowColour f video palette base (column + i)) at head out
-      → two
-      ≡ stores
-      (λ j. shown f (λ v. getD table v 0) (storedPixel (f .bits) (f .bswp) (f .hwswp) video (base + (column + head) * f .bits / 32) j))
-      (at + head) ((n - head) * f .bits / 32 * (32 / f .bits)) one
-      → three ≡ stores (λ i. rowColour f video palette base (column + (n - tail) + i)) (at + (n - tail)) tail two
-      → three ≡ stores (λ i. rowColour f video palette base (column + i)) at n out
-  drawn-in-parts off at out one two three e₁ e₂ e₃ = all-stored g at out three _ third n (omega (arith, rest-in-words, head-le))
-    where
-      g : ℕ → ℕ
-      g i = rowColour f video palette base (column + i)
+    second : Stored h first out two (0 + head + (n - head - tail))
+    second =
+        some-more h first out one (0 + head) start _ (first + head) (n - head - tail) two e₂ (omega arith) (λ i l. ap g (omega arith))
 
-      part : ℕ
-      part = (n - head) * f .bits / 32 * (32 / f .bits)
-
-      start : Stored g at out one (0 + head)
-      start = some-more g at out out 0 (none-stored g at out) g at head one e₁ (omega arith) (λ i h. ap g (omega arith))
-
-      second : Stored g at out two (0 + head + part)
-      second =
-          some-more g at out one (0 + head) start _ (at + head) part two e₂ (omega arith)
-          (λ j h. word-colour off j h ∙ ap (λ (k : ℕ). rowColour f video palette base (column + (k + j))) (omega arith))
-
-      third : Stored g at out three (0 + head + part + tail)
-      third =
-          some-more g at out two (0 + head + part) second _ (at + (n - tail)) tail three e₃ (omega (arith, rest-in-words, head-le))
-          (λ i h. ap (rowColour f video palette base) (omega (arith, rest-in-words, head-le)))
+    third : Stored h first out three (0 + head + (n - head - tail) + tail)
+    third =
+        some-more h first out two (0 + head + (n - head - tail)) second _ (first + (n - tail)) tail three e₃ (omega arith)
+        (λ i l. ap g (omega arith))

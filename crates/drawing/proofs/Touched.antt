@@ -11,35 +11,37 @@ use Rattle.pixels.specs.Format.{format}
 use Rattle.pixels.specs.Order.{inOrder, pixelBits}
 use Rattle.pixels.specs.Pixel.{indexed, shown}
 use Rattle.pixels.specs.declared.format.Format.{Format}
-use Rattle.registers.specs.declared.Words.{Words}
-use Rattle.drawing.specs.Colour.{storedPixel, rowColour, colour}
 use Rattle.memory.specs.Memory.{firstWord}
+use Rattle.memory.specs.declared.Screen.{Screen}
+use Rattle.drawing.specs.Colour.{Lent, storedPixel, rowColour, colour}
 
 -- the place of the word that holds a pixel
-abbrev pub wordOf : Words → ℕ → ℕ → ℕ → ℕ
-wordOf w start r c = firstWord w start r + c / (32 / format w .bits)
+abbrev pub wordOf : Screen → ℕ → ℕ → ℕ
+wordOf s r c = firstWord s r + c / (32 / format (s .words) .bits)
 
 -- the stored bits of a pixel, which are the palette's index where there is one
-abbrev pub indexOf : Words → ℕ → List ℕ → ℕ → ℕ → ℕ
-indexOf w start memory r c =
-    storedPixel (format w .bits) (format w .bswp) (format w .hwswp) memory (firstWord w start r) c
+abbrev pub indexOf : Screen → List ℕ → ℕ → ℕ → ℕ
+indexOf s memory r c =
+    storedPixel (format (s .words) .bits) (format (s .words) .bswp) (format (s .words) .hwswp) memory (firstWord s r) c
 
-module _ (w : Words) (start r c : ℕ) (memory memory′ : List ℕ)
-    (word : getD memory (wordOf w start r c) 0 ≡ getD memory′ (wordOf w start r c) 0) where
-  same-index : indexOf w start memory r c ≡ indexOf w start memory′ r c
+module _ (s : Screen) (r c : ℕ) (l m : Lent) (word : getD (l .memory) (wordOf s r c) 0 ≡ getD (m .memory) (wordOf s r c) 0) where
+  same-index : indexOf s (l .memory) r c ≡ indexOf s (m .memory) r c
   unfolding storedPixel
   same-index =
-      ap (λ (x : ℕ). pixelBits (format w .bits) (inOrder (format w .bswp) (format w .hwswp) x) (c % (32 / format w .bits))) word
+      let f = format (s .words) in
+      ap (λ (x : ℕ). pixelBits (f .bits) (inOrder (f .bswp) (f .hwswp) x) (c % (32 / f .bits))) word
 
-  pub colour-reads : (palette palette′ : List ℕ)
-      → getD palette (indexOf w start memory′ r c) 0 ≡ getD palette′ (indexOf w start memory′ r c) 0
-      → colour w start memory palette r c ≡ colour w start memory′ palette′ r c
+  pub colour-reads : getD (l .palette) (indexOf s (m .memory) r c) 0 ≡ getD (m .palette) (indexOf s (m .memory) r c) 0
+      → colour s l r c ≡ colour s m r c
   unfolding colour rowColour shown
-  colour-reads palette palette′ entry =
-      ap (λ (v : ℕ). cond (format w .tpalen) (format w .tpalval) (shown (format w) (indexed (format w) palette) v)) same-index
-      ∙ ap (λ (x : ℕ). as-shown (format w) (indexOf w start memory′ r c) (expanded (format w .frm565) x)) entry
+  colour-reads entry =
+      ap (λ (v : ℕ). cond (f .tpalen) (f .tpalval) (shown f (indexed f (l .palette)) v)) same-index
+      ∙ ap (λ (x : ℕ). as-shown (indexOf s (m .memory) r c) (expanded (f .expansion) x)) entry
     where
-      as-shown : Format → ℕ → ℕ → ℕ
-      as-shown f v x =
+      f : Format
+      f = format (s .words)
+
+      as-shown : ℕ → ℕ → ℕ
+      as-shown v x =
           cond (f .tpalen) (f .tpalval)
-          (cond (eqb (f .bits) 32) (cut24 (f .bpp24bl) v) (cond (eqb (f .bits) 16) (expanded (f .frm565) v) x))
+          (cond (eqb (f .bits) 32) (cut24 (f .bpp24bl) v) (cond (eqb (f .bits) 16) (expanded (f .expansion) v) x))

@@ -1,5 +1,5 @@
--- The colour of a pixel (document 01, "Where a pixel lies" and "Colours"): the one definition that every drawing cites.
--- Assumes nothing.
+-- The colour of a pixel (document 01, "Where a pixel lies" and "Colours"): the one definition that every drawing cites. It is total:
+-- a word or an entry that is not lent counts as 0. Promises cite it, so a reader must believe it. Assumes nothing.
 use mathlib.Core.Bool.{Bool, cond}
 use mathlib.Core.List.{List}
 use Prim.Native.Nat.{ℕ, _+_, _/_, _%_}
@@ -8,19 +8,28 @@ use Rattle.pixels.specs.Format.{format}
 use Rattle.pixels.specs.Order.{inOrder, pixelBits}
 use Rattle.pixels.specs.Pixel.{indexed, shown}
 use Rattle.pixels.specs.declared.format.Format.{Format}
-use Rattle.registers.specs.declared.Words.{Words}
 use Rattle.memory.specs.Memory.{firstWord}
+use Rattle.memory.specs.declared.Screen.{Screen}
+
+-- the memory and the palette lent to a call
+pub record Lent : Type 0 where
+  pub memory : List ℕ
+  pub palette : List ℕ
+
+abbrev pub lending : List ℕ → List ℕ → Lent
+lending memory palette = record { memory = memory; palette = palette }
 
 -- the stored bits of pixel c of a row that begins with the memory's word `base`: a word holds 32 / s pixels
 unfoldable pub storedPixel : ℕ → Bool → Bool → List ℕ → ℕ → ℕ → ℕ
 storedPixel s bswp hwswp memory base c =
     pixelBits s (inOrder bswp hwswp (getD memory (base + c / (32 / s)) 0)) (c % (32 / s))
 
--- its colour: "If TPALEN is 1, every pixel is TPALVAL"
-unfoldable pub rowColour : Format → List ℕ → List ℕ → ℕ → ℕ → ℕ
-rowColour f memory palette base c =
-    cond (f .tpalen) (f .tpalval) (shown f (indexed f palette) (storedPixel (f .bits) (f .bswp) (f .hwswp) memory base c))
+-- its colour, given the colour of each index: "If TPALEN is 1, every pixel is TPALVAL"
+unfoldable pub rowColour : Format → (ℕ → ℕ) → List ℕ → ℕ → ℕ → ℕ
+rowColour f colours memory base c =
+    cond (f .tpalen) (f .tpalval) (shown f colours (storedPixel (f .bits) (f .bswp) (f .hwswp) memory base c))
 
--- the colour of the pixel in row r, column c, by the words, the window start, the lent memory and the lent palette
-unfoldable pub colour : Words → ℕ → List ℕ → List ℕ → ℕ → ℕ → ℕ
-colour w start memory palette r c = rowColour (format w) memory palette (firstWord w start r) c
+-- the colour of the pixel in row r, column c
+unfoldable pub colour : Screen → Lent → ℕ → ℕ → ℕ
+colour s l r c =
+    rowColour (format (s .words)) (indexed (format (s .words)) (l .palette)) (l .memory) (firstWord s r) c

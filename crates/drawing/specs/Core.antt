@@ -1,49 +1,78 @@
 -- What the private functions of drawing ask and leave. A reader of the promises need not believe any of it. Assumes nothing.
-use mathlib.Core.Bool.{true, false}
+use mathlib.Core.Bool.{Bool, true, false, not, _&&_}
 use mathlib.Core.List.{List}
 use mathlib.Core.Path.{_≡_}
-use Prim.Native.Nat.{ℕ, _+_, _*_, _/_, _^_, _<_, _≤_}
+use Prim.Native.Nat.{ℕ, _+_, _*_, _/_, _^_, _<_, _≤_, _∣_}
+use lib.Dec.{leb}
 use lib.ListN.{length, getD}
-use Rattle.panel.specs.Geometry.{outsideModes, storedBits}
+use Rattle.laws.specs.Storing.{stores}
+use Rattle.panel.specs.Geometry.{width, height, storedBits}
+use Rattle.pixels.specs.Format.{format}
 use Rattle.pixels.specs.Pixel.{indexed}
 use Rattle.pixels.specs.declared.format.Format.{Format}
-use Rattle.registers.specs.declared.Words.{Words}
-use Rattle.memory.specs.Memory.{judgeMemory}
+use Rattle.memory.specs.Memory.{firstWord}
+use Rattle.memory.specs.declared.Screen.{Screen}
+use Rattle.drawing.specs.Colour.{rowColour}
 
--- a format that 1 to 7 let pass
-pub record Legal (f : Format) : Type 0 where
+-- a format that words have, whichever they are: 0 bits where the mode is none
+pub record Sized (f : Format) : Type 0 where
   pub mode : ℕ
-  pub inside : outsideModes mode ≡ false
   pub size : f .bits ≡ storedBits mode
+
+-- one whose pixels are stored
+pub record Stores (f : Format) : Type 0 where
+  pub sized : Sized f
+  pub some : 0 < f .bits
+
+-- and whose swaps are the mode's
+pub record Legal (f : Format) : Type 0 where
+  pub stores : Stores f
   pub bytes : f .bswp ≡ true → f .bits ≤ 8
   pub halves : f .hwswp ≡ true → f .bits ≡ 16
 
--- the table holds the expanded colour of each index, where pixels are indices
-pub record Expanded (f : Format) (palette table : List ℕ) : Type 0 where
-  pub room : f .bits ≤ 8 → 2 ^ f .bits ≤ length table
-  pub entry : (v : ℕ) → f .bits ≤ 8 → v < 2 ^ f .bits → getD table v 0 ≡ indexed f palette v
+-- pixels are looked up: they are indices, and no temporary palette hides them
+abbrev pub lookedUp : Format → Bool
+lookedUp f = leb (f .bits) 8 && not (f .tpalen)
 
--- n pixels of a size, from `at` on
+-- the table holds the expanded colour of each index, where pixels are looked up
+pub record Expanded (f : Format) (palette table : List ℕ) : Type 0 where
+  pub room : f .tpalen ≡ false → f .bits ≤ 8 → 2 ^ f .bits ≤ length table
+  pub entry : f .tpalen ≡ false → (v : ℕ) → f .bits ≤ 8 → v < 2 ^ f .bits → getD table v 0 ≡ indexed f palette v
+
+-- n words of pixels of a size, from `at` on
 pub record Fits (s n at : ℕ) (out : List ℕ) : Type 0 where
   pub some : 0 < s
   pub whole : s * (32 / s) ≡ 32
   pub room : at + n * (32 / s) ≤ length out
 
--- pixels up to `end` of the row that begins with the memory's word `base` lie in the memory
-pub record InRow (f : Format) (memory : List ℕ) (base end : ℕ) : Type 0 where
-  pub words : ℕ
-  pub inside : base + words ≤ length memory
-  pub covered : end ≤ words * (32 / f .bits)
-  pub short : end ≤ 2048
+-- pixels of a size in a word
+abbrev pub perWord : Format → ℕ
+perWord f = 32 / f .bits
 
--- what drawing the columns below `end` of a row asks of the format and of what is lent
-pub record Columns (f : Format) (memory : List ℕ) (base : ℕ) (palette table : List ℕ) (end : ℕ) : Type 0 where
+-- n pixels fill whole words, which are lent from the memory's word `base` on
+pub record InMemory (f : Format) (memory : List ℕ) (base n : ℕ) : Type 0 where
+  pub whole : perWord f ∣ n
+  pub inside : base + n / perWord f ≤ length memory
+
+-- what drawing n columns of a row from one on asks: they begin with a word and end with one
+pub record Columns (f : Format) (memory table : List ℕ) (base column n : ℕ) : Type 0 where
   pub legal : Legal f
-  pub row : InRow f memory base end
-  pub entries : length palette ≡ 256
-  pub expanded : Expanded f palette table
+  pub room : f .tpalen ≡ false → f .bits ≤ 8 → 2 ^ f .bits ≤ length table
+  pub begins : perWord f ∣ column
+  pub lent : InMemory f memory (base + column / perWord f) n
+  pub short : column + n ≤ 2048
 
--- what 1 to 8 and 10 leave to a drawing
-pub record Lent (w : Words) (start : ℕ) (memory palette : List ℕ) : Type 0 where
-  pub judged : judgeMemory w start (length memory) ≡ 0
-  pub entries : length palette ≡ 256
+-- rows fill whole words, and each lies in so many words of memory
+pub record ByRows (s : Screen) (lent : ℕ) : Type 0 where
+  pub legal : Legal (format (s .words))
+  pub whole : perWord (format (s .words)) ∣ width (s .words)
+  pub inside : (r : ℕ) → r < height (s .words) → firstWord s r + width (s .words) / perWord (format (s .words)) ≤ lent
+
+-- the pixels with the numbers first to before first + count, where there are any, begin with a word and end with one
+pub record InWords (s : Screen) (first count : ℕ) : Type 0 where
+  pub begins : 0 < count → perWord (format (s .words)) ∣ first
+  pub whole : perWord (format (s .words)) ∣ count
+
+-- what drawing columns leaves: n pixels from one on, by the table, to the entries from `at` on
+abbrev pub columnsStored : Format → List ℕ → List ℕ → ℕ → ℕ → ℕ → ℕ → List ℕ → List ℕ
+columnsStored f table memory base column n at out = stores (λ i. rowColour f (λ v. getD table v 0) memory base (column + i)) at n out

@@ -3,8 +3,7 @@
 mod columns;
 pub mod picture;
 pub mod pixel;
-mod place;
-mod refusals;
+pub mod refusals;
 pub mod row;
 mod table;
 mod words;

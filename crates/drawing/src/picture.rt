@@ -1,19 +1,21 @@
 // The picture, and a stretch of it.
+ghost use mathlib.Core.Bool.{true};
 ghost use mathlib.Core.Path.{_≡_};
-ghost use Prim.Native.Nat.{_+_, _*_, _≤_};
+ghost use Prim.Native.Nat.{_+_, _-_, _*_, _/_, _%_, _<_, _≤_};
 ghost use lib.ListN.{length};
 ghost use Rattle.laws.specs.Answers.{leaves};
-ghost use Rattle.laws.specs.Storing.{stores};
-ghost use Rattle.panel.specs.Geometry.{width, height};
-ghost use Rattle.drawing.specs.Core.{Lent};
-ghost use Rattle.drawing.specs.Drawing.{pixels, judgeDrawing, colourInOrder, drawPicture, drawStretch};
-ghost use Rattle.registers.specs.Loading.{tooShort};
+ghost use Rattle.drawing.specs.Colour.{lending};
+ghost use Rattle.drawing.specs.Core.{ByRows, InWords};
+ghost use Rattle.drawing.specs.Drawing.{pixels, pixelsStored, judgePicture, drawPicture, drawStretch};
+use super::columns::beyond;
 use super::columns::draw_columns;
 use super::columns::least;
-use super::columns::pixel_at;
-use super::place::first_word;
+use super::columns::legal;
+use super::pixel::pixel_colour;
 use super::refusals::judge_drawing;
-use super::table::colour_table;
+use super::table::fill_table;
+use memory::Screen;
+use memory::first_word;
 use panel::geometry::height;
 use panel::geometry::width;
 use pixels::format::format_of;
@@ -27,47 +29,30 @@ pub fn pixels_of(w: Words) -> u32
     width(w) * height(w)
 }
 
-// What drawing to a lent picture of so many entries is judged by.
-fn judge_picture(w: Words, window_start: u32, lent: usize, entries: usize, room: usize) -> u32
-    ensures { λ r. ⌜ r ≡ judgeDrawing w «window_start» lent entries (tooShort room (pixels w)) ⌝ }
-{
-    judge_drawing(w, window_start, lent, entries, room < pixels_of(w) as usize)
-}
-
 // The pixels with the numbers first to before first + count, in reading order, to the same entries: a row a turn, the first and
 // the last perhaps in part.
 fn draw_rows(
-    w: Words,
-    window_start: u32,
+    s: Screen,
     video: &[u32],
     palette: &[u16],
     first: usize,
     count: usize,
     picture: &mut [u32],
 )
-    requires { ⌜ Lent w «window_start» (now video) (now palette) × (first + count ≤ pixels w) × (pixels w ≤ length (now picture)) ⌝ }
-    ensures { λ _. ⌜ now (picture .exit) ≡ stores (λ k. colourInOrder w «window_start» (now (video .entry)) (now (palette .entry)) (first + k)) first count (now (picture .entry)) ⌝ }
+    requires { ⌜ ByRows s (length (now video)) × InWords s first count × (first + count ≤ pixels (s .words)) × (first + count ≤ length (now picture)) ⌝ }
+    ensures { λ _. ⌜ now (picture .exit) ≡ pixelsStored s (lending (now (video .entry)) (now (palette .entry))) first count (now (picture .entry)) ⌝ }
 {
-    let f = format_of(w);
-    let table = colour_table(f, palette);
-    let wide = width(w) as usize;
+    let f = format_of(s.words);
+    let mut table = [0u32; 256];
+    fill_table(f, palette, &mut table);
+    let wide = width(s.words) as usize;
     let mut row = (first / wide) as u32;
     let mut column = first % wide;
     let mut done = 0;
     while done < count {
         let n = least(wide - column, count - done);
-        let base = first_word(w, window_start, row);
-        draw_columns(
-            f,
-            video,
-            base,
-            palette,
-            &table,
-            column,
-            n,
-            first + done,
-            picture,
-        );
+        let base = first_word(s, row);
+        draw_columns(f, video, base, &table, column, n, first + done, picture);
         done += n;
         row += 1;
         column = 0;
@@ -76,103 +61,111 @@ fn draw_rows(
 
 // The same for few pixels: one by one, without the table of colours. So few that a division each costs less than the table.
 fn draw_few(
-    w: Words,
-    window_start: u32,
+    s: Screen,
     video: &[u32],
     palette: &[u16],
     first: usize,
     count: usize,
     picture: &mut [u32],
 )
-    requires { ⌜ Lent w «window_start» (now video) (now palette) × (first + count ≤ pixels w) × (pixels w ≤ length (now picture)) ⌝ }
-    ensures { λ _. ⌜ now (picture .exit) ≡ stores (λ k. colourInOrder w «window_start» (now (video .entry)) (now (palette .entry)) (first + k)) first count (now (picture .entry)) ⌝ }
+    requires { ⌜ (count ≤ pixels (s .words) - first) × (count ≤ length (now picture) - first) ⌝ }
+    ensures { λ _. ⌜ now (picture .exit) ≡ pixelsStored s (lending (now (video .entry)) (now (palette .entry))) first count (now (picture .entry)) ⌝ }
 {
-    let f = format_of(w);
-    let wide = width(w) as usize;
+    let wide = width(s.words) as usize;
     let mut i = 0;
     while i < count {
         let number = first + i;
-        let base = first_word(w, window_start, (number / wide) as u32);
-        picture[number] = pixel_at(f, video, base, palette, number % wide);
+        let row = (number / wide) as u32;
+        picture[number] = pixel_colour(s, video, palette, row, (number % wide) as u32);
         i += 1;
     }
 }
 
-// The pixels by whichever of the two is the quicker: a table costs as much as some eight pixels.
-fn draw_numbers(
-    w: Words,
-    window_start: u32,
+// 1 to 8, 9, 10, and 0 where none applies: so many words of memory, entries of the palette and entries for the picture are lent.
+fn judge_picture(s: Screen, lent: usize, entries: usize, room: usize) -> u32
+    ensures { λ r. ⌜ r ≡ judgePicture s lent entries room ⌝ }
+{
+    judge_drawing(s, lent, entries, room < pixels_of(s.words) as usize)
+}
+
+// Draws the picture to the first W x H entries of the lent picture, row after row; the others stay. 0, or the number of the
+// refusal: 1 to 8, 9, 10 for a palette that has not 256 entries or a picture shorter than W x H. A refusal changes nothing.
+pub fn draw_picture(s: Screen, video: &[u32], palette: &[u16], picture: &mut [u32]) -> u32
+    ensures { λ r. ⌜ leaves r (now (picture .exit)) ≡ drawPicture s (lending (now (video .entry)) (now (palette .entry))) (now (picture .entry)) ⌝ }
+{
+    let refusal = judge_picture(s, video.len(), palette.len(), picture.len());
+    if refusal != 0 {
+        return refusal;
+    }
+    draw_rows(s, video, palette, 0, pixels_of(s.words) as usize, picture);
+    0
+}
+
+// Rows begin with a word, and each lies in so many words of memory. It is enough to look at the last.
+fn by_rows(s: Screen, lent: usize) -> bool
+    ensures { λ r. ⌜ (r ≡ true → ByRows s lent) ⌝ }
+{
+    let f = format_of(s.words);
+    let bits = width(s.words) as usize * f.bits as usize;
+    let last = first_word(s, height(s.words) - 1);
+    legal(f) & (bits % 32 == 0) & (last + bits / 32 <= lent)
+}
+
+// Pixels from a column to the next that begins a word; no division where that is the column itself.
+fn to_next_word(bits: usize, column: usize) -> usize
+    requires { ⌜ (0 < bits) × (bits * (32 / bits) ≡ 32) × (column ≤ 2048) ⌝ }
+    ensures { λ r. ⌜ (column + r) % (32 / bits) ≡ 0 ⌝ }
+    ensures { λ r. ⌜ r ≤ 32 ⌝ }
+{
+    let bit = column * bits % 32;
+    if bit == 0 {
+        return 0;
+    }
+    (32 - bit) / bits
+}
+
+// The same in three parts: single pixels up to the next word, rows, and the rest singly.
+fn draw_parts(
+    s: Screen,
     video: &[u32],
     palette: &[u16],
     first: usize,
     count: usize,
     picture: &mut [u32],
 )
-    requires { ⌜ Lent w «window_start» (now video) (now palette) × (first + count ≤ pixels w) × (pixels w ≤ length (now picture)) ⌝ }
-    ensures { λ _. ⌜ now (picture .exit) ≡ stores (λ k. colourInOrder w «window_start» (now (video .entry)) (now (palette .entry)) (first + k)) first count (now (picture .entry)) ⌝ }
+    requires { ⌜ ByRows s (length (now video)) × (first + count ≤ pixels (s .words)) × (first + count ≤ length (now picture)) ⌝ }
+    ensures { λ _. ⌜ now (picture .exit) ≡ pixelsStored s (lending (now (video .entry)) (now (palette .entry))) first count (now (picture .entry)) ⌝ }
 {
-    if count < 8 {
-        draw_few(w, window_start, video, palette, first, count, picture);
-    } else {
-        draw_rows(w, window_start, video, palette, first, count, picture);
-    }
+    let f = format_of(s.words);
+    let bits = f.bits as usize;
+    let head = least(to_next_word(bits, first % width(s.words) as usize), count);
+    draw_few(s, video, palette, first, head, picture);
+    let rest = count - head;
+    let tail = rest * bits % 32 / bits;
+    draw_rows(s, video, palette, first + head, rest - tail, picture);
+    draw_few(s, video, palette, first + (count - tail), tail, picture);
 }
 
-// Draws the picture to the first W x H entries of the lent picture, row after row; the others stay. 0, or the number of the
-// refusal: 1 to 8, 9, 10 for a palette that has not 256 entries or a picture shorter than W x H. A refusal changes nothing.
-pub fn draw_picture(
-    w: Words,
-    window_start: u32,
-    video: &[u32],
-    palette: &[u16],
-    picture: &mut [u32],
-) -> u32
-    ensures { λ r. ⌜ leaves r (now (picture .exit)) ≡ drawPicture w «window_start» (now (video .entry)) (now (palette .entry)) (now (picture .entry)) ⌝ }
-{
-    let refusal = judge_picture(w, window_start, video.len(), palette.len(), picture.len());
-    if refusal != 0 {
-        return refusal;
-    }
-    draw_rows(
-        w,
-        window_start,
-        video,
-        palette,
-        0,
-        pixels_of(w) as usize,
-        picture,
-    );
-    0
-}
-
-// Draws the pixels with the numbers first to before first + count, in reading order, to the same entries of the lent picture;
-// the others stay. Refusals as for the picture, and 11 where first + count is above W x H.
+// Draws the pixels with the numbers first to before first + count, in reading order, to the same entries of the lent picture, as
+// far as the panel has them and the picture has the entries; the others stay. Nothing is judged. By rows; by single pixels where they
+// are few, since a table costs as much as some eight, or where rows do not lie in the memory word by word.
 pub fn draw_stretch(
-    w: Words,
-    window_start: u32,
+    s: Screen,
     video: &[u32],
     palette: &[u16],
     first: u32,
     count: u32,
     picture: &mut [u32],
-) -> u32
-    ensures { λ r. ⌜ leaves r (now (picture .exit)) ≡ drawStretch w «window_start» (now (video .entry)) (now (palette .entry)) first count (now (picture .entry)) ⌝ }
+)
+    ensures { λ _. ⌜ now (picture .exit) ≡ drawStretch s (lending (now (video .entry)) (now (palette .entry))) first count (now (picture .entry)) ⌝ }
 {
-    let refusal = judge_picture(w, window_start, video.len(), palette.len(), picture.len());
-    if refusal != 0 {
-        return refusal;
+    let end = least(pixels_of(s.words) as usize, picture.len());
+    let n = least(count as usize, beyond(end, first as usize));
+    if n < 8 {
+        draw_few(s, video, palette, first as usize, n, picture);
+    } else if by_rows(s, video.len()) {
+        draw_parts(s, video, palette, first as usize, n, picture);
+    } else {
+        draw_few(s, video, palette, first as usize, n, picture);
     }
-    if (pixels_of(w) as usize) < first as usize + count as usize {
-        return 11;
-    }
-    draw_numbers(
-        w,
-        window_start,
-        video,
-        palette,
-        first as usize,
-        count as usize,
-        picture,
-    );
-    0
 }

@@ -1,29 +1,24 @@
 // What every drawing is judged by.
 ghost use mathlib.Core.Path.{_≡_};
-ghost use Rattle.drawing.specs.Drawing.{judgeDrawing};
+ghost use Rattle.drawing.specs.Drawing.{paletteWrong, judgeDrawing};
+use memory::Screen;
 use memory::judge_memory;
-use registers::Words;
+use panel::refusals::and_where;
+use panel::refusals::video_off;
 
-// 1 to 8, 9, 10, and 0 where none applies: so many words of memory and entries of the palette are lent, and a row or picture
-// that may be too short.
-pub(crate) fn judge_drawing(
-    w: Words,
-    window_start: u32,
-    lent: usize,
-    entries: usize,
-    short: bool,
-) -> u32
-    ensures { λ r. ⌜ r ≡ judgeDrawing w «window_start» lent entries short ⌝ }
+// 10: the palette has not 256 entries.
+pub fn palette_wrong(entries: usize) -> bool
+    ensures { λ r. ⌜ r ≡ paletteWrong entries ⌝ }
 {
-    let refusal = judge_memory(w, window_start, lent);
-    if refusal != 0 {
-        return refusal;
-    }
-    if w.envid() == 0 {
-        return 9;
-    }
-    if (entries != 256) | short {
-        return 10;
-    }
-    0
+    entries != 256
+}
+
+// 1 to 8, 9, 10, and 0 where none applies: so many words of memory and entries of the palette are lent, and another slice that
+// may be too short.
+pub fn judge_drawing(s: Screen, lent: usize, entries: usize, short: bool) -> u32
+    ensures { λ r. ⌜ r ≡ judgeDrawing s lent entries short ⌝ }
+{
+    let to_8 = judge_memory(s, lent);
+    let to_9 = and_where(to_8, video_off(s.words), 9);
+    and_where(to_9, palette_wrong(entries) | short, 10)
 }

@@ -1,38 +1,61 @@
-// The palette's colours, expanded once for all the pixels of a drawing.
+// The colours of all indices, expanded once.
+ghost use mathlib.Core.Bool.{true, false};
 ghost use mathlib.Core.Path.{_≡_};
-ghost use Prim.Native.Nat.{_^_, _≤_};
-ghost use lib.ListN.{length, getD};
+ghost use Prim.Native.Nat.{_^_, _<_, _≤_};
+ghost use lib.ListN.{length, getD, replicate};
 ghost use Rattle.laws.specs.Storing.{stores};
 ghost use Rattle.pixels.specs.Colours.{expanded};
-ghost use Rattle.drawing.specs.Core.{Expanded};
+ghost use Rattle.drawing.specs.Core.{lookedUp, Expanded};
+use super::columns::least;
+use pixels::colours::Expansion;
 use pixels::colours::expand;
 use pixels::format::Format;
 
+// An entry of the palette, 0 where there is none.
+pub(crate) fn entry_at(palette: &[u16], place: usize) -> u32
+    ensures { λ r. ⌜ r ≡ getD (now (palette .entry)) place 0 ⌝ }
+{
+    if place < palette.len() {
+        return palette[place] as u32;
+    }
+    0
+}
+
 // The colours of the first n palette entries.
-pub(crate) fn expand_palette(palette: &[u16], n: usize, frm565: bool, table: &mut [u32])
+fn expand_palette(palette: &[u16], n: usize, expansion: Expansion, table: &mut [u32])
     requires { ⌜ (n ≤ length (now palette)) × (n ≤ length (now table)) ⌝ }
-    ensures { λ _. ⌜ now (table .exit) ≡ stores (λ i. expanded frm565 (getD (now (palette .entry)) i 0)) 0 n (now (table .entry)) ⌝ }
+    ensures { λ _. ⌜ now (table .exit) ≡ stores (λ i. expanded expansion (getD (now (palette .entry)) i 0)) 0 n (now (table .entry)) ⌝ }
 {
     let mut i = 0;
     while i < n {
-        table[i] = expand(palette[i] as u32, frm565);
+        table[i] = expand(palette[i] as u32, expansion);
         i += 1;
     }
 }
 
-// How many colours a pixel's bits can name; none where a pixel is no index.
-fn indices(bits: u32) -> usize
-    ensures { λ r. ⌜ (bits ≤ 8 → r ≡ 2 ^ bits) × (r ≤ 256) ⌝ }
+// Pixels are looked up: they are indices, and no temporary palette hides them.
+pub(crate) fn looked_up(f: Format) -> bool
+    ensures { λ r. ⌜ r ≡ lookedUp f ⌝ }
 {
-    if bits <= 8 { 1 << bits } else { 0 }
+    (f.bits <= 8) & !f.tpalen
 }
 
-// The colour of each index, where pixels are indices.
-pub(crate) fn colour_table(f: Format, palette: &[u16]) -> [u32; 256]
-    requires { ⌜ length (now palette) ≡ 256 ⌝ }
-    ensures { λ r. ⌜ Expanded f (now (palette .entry)) r ⌝ }
+// How many colours a pixel's bits can name; none where nothing is looked up.
+fn indices(f: Format) -> usize
+    ensures { λ r. ⌜ (f .tpalen ≡ false → f .bits ≤ 8 → r ≡ 2 ^ f .bits) × (r ≤ 256) ⌝ }
 {
-    let mut table = [0u32; 256];
-    expand_palette(palette, indices(f.bits), f.frm565, &mut table);
-    table
+    if looked_up(f) {
+        return 1 << f.bits;
+    }
+    0
+}
+
+// The colour of each index to a table that is black at first, where pixels are looked up.
+pub(crate) fn fill_table(f: Format, palette: &[u16], table: &mut [u32])
+    requires { ⌜ now table ≡ replicate 256 0 ⌝ }
+    ensures { λ _. ⌜ Expanded f (now (palette .entry)) (now (table .exit)) ⌝ }
+{
+    let n = least(indices(f), palette.len());
+    let expansion = f.expansion;
+    expand_palette(palette, n, expansion, table);
 }

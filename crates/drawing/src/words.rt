@@ -9,6 +9,7 @@ ghost use Rattle.pixels.specs.Order.{pixelBits};
 ghost use Rattle.pixels.specs.Pixel.{shown};
 ghost use Rattle.drawing.specs.Colour.{storedPixel};
 ghost use Rattle.drawing.specs.Core.{Legal, Fits};
+use pixels::colours::Expansion;
 use pixels::colours::cut_24;
 use pixels::colours::expand;
 use pixels::format::Format;
@@ -47,7 +48,7 @@ fn look_up_words(
     at: usize,
     out: &mut [u32],
 )
-    requires { ⌜ Fits s n at (now out) × (2 ^ s ≤ length (now table)) × (from + n ≤ length (now video)) ⌝ }
+    requires { ⌜ Fits s n at (now out) × (2 ^ s ≤ length (now table)) × (n ≤ length (now video) - from) ⌝ }
     ensures { λ _. ⌜ now (out .exit) ≡ stores (λ j. getD (now (table .entry)) (storedPixel s bswp false (now (video .entry)) from j) 0) at (n * (32 / s)) (now (out .entry)) ⌝ }
 {
     let per_word = (32 / s) as usize;
@@ -72,25 +73,25 @@ fn expand_words(
     from: usize,
     n: usize,
     hwswp: bool,
-    frm565: bool,
+    expansion: Expansion,
     at: usize,
     out: &mut [u32],
 )
-    requires { ⌜ Fits 16 n at (now out) × (from + n ≤ length (now video)) ⌝ }
-    ensures { λ _. ⌜ now (out .exit) ≡ stores (λ j. expanded frm565 (storedPixel 16 false hwswp (now (video .entry)) from j)) at (n * (32 / 16)) (now (out .entry)) ⌝ }
+    requires { ⌜ Fits 16 n at (now out) × (n ≤ length (now video) - from) ⌝ }
+    ensures { λ _. ⌜ now (out .exit) ≡ stores (λ j. expanded expansion (storedPixel 16 false hwswp (now (video .entry)) from j)) at (n * (32 / 16)) (now (out .entry)) ⌝ }
 {
     let mut i = 0;
     while i < n {
         let x = exchange_halves(video[from + i]);
-        out[at + i * 2] = expand(half(x, hwswp), frm565);
-        out[at + (i * 2 + 1)] = expand(half(x, !hwswp), frm565);
+        out[at + i * 2] = expand(half(x, hwswp), expansion);
+        out[at + (i * 2 + 1)] = expand(half(x, !hwswp), expansion);
         i += 1;
     }
 }
 
 // n words from one on, at 24 bits a pixel.
 fn cut_words(video: &[u32], from: usize, n: usize, bpp24bl: bool, at: usize, out: &mut [u32])
-    requires { ⌜ Fits 32 n at (now out) × (from + n ≤ length (now video)) ⌝ }
+    requires { ⌜ Fits 32 n at (now out) × (n ≤ length (now video) - from) ⌝ }
     ensures { λ _. ⌜ now (out .exit) ≡ stores (λ j. cut24 bpp24bl (storedPixel 32 false false (now (video .entry)) from j)) at (n * (32 / 32)) (now (out .entry)) ⌝ }
 {
     let mut i = 0;
@@ -110,16 +111,17 @@ pub(crate) fn draw_words(
     at: usize,
     out: &mut [u32],
 )
-    requires { ⌜ Legal f × (f .bits ≤ 8 → 2 ^ f .bits ≤ length (now table)) × (from + n ≤ length (now video)) × (at + n * (32 / f .bits) ≤ length (now out)) ⌝ }
+    requires { ⌜ Legal f × (f .bits ≤ 8 → 2 ^ f .bits ≤ length (now table)) × (n ≤ length (now video) - from) × (at + n * (32 / f .bits) ≤ length (now out)) ⌝ }
     ensures { λ _. ⌜ now (out .exit) ≡ stores (λ j. shown f (λ v. getD (now (table .entry)) v 0) (storedPixel (f .bits) (f .bswp) (f .hwswp) (now (video .entry)) from j)) at (n * (32 / f .bits)) (now (out .entry)) ⌝ }
 {
     let bits = f.bits;
+    let expansion = f.expansion;
     match bits {
         1 => look_up_words(video, from, n, 1, f.bswp, table, at, out),
         2 => look_up_words(video, from, n, 2, f.bswp, table, at, out),
         4 => look_up_words(video, from, n, 4, f.bswp, table, at, out),
         8 => look_up_words(video, from, n, 8, f.bswp, table, at, out),
-        16 => expand_words(video, from, n, f.hwswp, f.frm565, at, out),
+        16 => expand_words(video, from, n, f.hwswp, expansion, at, out),
         _ => cut_words(video, from, n, f.bpp24bl, at, out),
     }
 }

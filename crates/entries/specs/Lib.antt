@@ -1,4 +1,4 @@
 pub mod Order
 pub mod Reading
 pub mod Writing
-pub mod ReadBack
+pub mod ReadBackLaws

@@ -4,6 +4,7 @@ ghost use mathlib.Core.Path.{_≡_};
 ghost use Prim.Native.Nat.{_≤_};
 ghost use lib.ListN.{length};
 ghost use Rattle.laws.specs.Answers.{leaves};
+ghost use Rattle.registers.specs.Loading.{wordEntries};
 ghost use Rattle.entries.specs.Order.{lcdcon1In, lcdcon2In, lcdcon3In, lcdcon4In, lcdcon5In, fieldsIn};
 ghost use Rattle.entries.specs.Order.{lcdsaddr1In, lcdsaddr2In, lcdsaddr3In, tpalIn};
 ghost use Rattle.entries.specs.Writing.{writeFieldsOf, writeFields};
@@ -19,8 +20,8 @@ use fields::Lcdsaddr3;
 use fields::Tpal;
 use fields::WordsWritten;
 use fields::write;
+use registers::Words;
 use registers::put_entries;
-use registers::word_entries;
 
 // ---- the fields in their slice
 
@@ -148,6 +149,23 @@ fn fields_in(fields: &[u32]) -> Fields
 }
 
 // ---- the words in theirs
+
+// The words in the order in which a slice has them.
+fn word_entries(w: Words) -> [u32; 9]
+    ensures { λ r. ⌜ r ≡ wordEntries w ⌝ }
+{
+    [
+        w.lcdcon1,
+        w.lcdcon2,
+        w.lcdcon3,
+        w.lcdcon4,
+        w.lcdcon5,
+        w.lcdsaddr1,
+        w.lcdsaddr2,
+        w.lcdsaddr3,
+        w.tpal,
+    ]
+}
 
 fn write_fields_of(f: Fields, words: &mut [u32]) -> u32
     ensures { λ r. ⌜ leaves r (now (words .exit)) ≡ writeFieldsOf f (now (words .entry)) ⌝ }

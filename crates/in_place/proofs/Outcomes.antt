@@ -4,7 +4,8 @@ use mathlib.Core.Path.{_≡_, refl, ap, ap₂}
 use Prim.Native.Nat.{ℕ}
 use Rattle.laws.specs.Answers.{accepted, refused, orElse}
 use Rattle.laws.specs.AnswerLaws.{maps, maps-refusal}
-use Rattle.scanout.specs.Calls.{Lent, step}
+use Rattle.drawing.specs.Colour.{Lent}
+use Rattle.scanout.specs.Calls.{step}
 use Rattle.scanout.specs.Lists.{Calls, _then_, aStep, next, final}
 use Rattle.scanout.specs.declared.state.State.{State}
 use Rattle.signals.specs.declared.clock.Clock.{Clock}

@@ -1,7 +1,8 @@
 -- What a step in place leaves (document 01, "The bench"): "a step that changes a state where it lies". It is the by-value step's answer,
--- and the state that the next call of a list gets. Assumes nothing.
+-- and the state that the next call of a list gets. Promises cite it, so a reader must believe it. Assumes nothing.
 use Rattle.laws.specs.Answers.{Answer, accepted, refused, mapped}
-use Rattle.scanout.specs.Calls.{Lent, step}
+use Rattle.drawing.specs.Colour.{Lent}
+use Rattle.scanout.specs.Calls.{step}
 use Rattle.scanout.specs.Lists.{aStep, next}
 use Rattle.scanout.specs.declared.state.State.{State}
 use Rattle.signals.specs.declared.clock.Clock.{Clock}

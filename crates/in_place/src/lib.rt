@@ -2,7 +2,7 @@
 // the state is the next one and the answer is the clock; refused, the answer is the number and the state is as it was.
 ghost use mathlib.Core.Path.{_≡_};
 ghost use Rattle.in_place.specs.Stepping.{clocked, placed, leaving, stepInPlace};
-ghost use Rattle.scanout.specs.Core.{lending};
+ghost use Rattle.drawing.specs.Colour.{lending};
 use scanout::state::State;
 use scanout::step::Stepped;
 use scanout::step::step;

@@ -1,6 +1,6 @@
 -- Laws of numbered conditions: the first that holds where numbers rise, what acceptance says, lists that are joined. A reader need
 -- not believe them. Assumes nothing.
-use mathlib.Core.Path.{_≡_, refl, sym, ap, _∙_}
+use mathlib.Core.Path.{_≡_, refl, sym, ap, ap₂, _∙_}
 use mathlib.Core.Bool.{Bool, true, false, cond, _&&_}
 use mathlib.Core.List.{List, [], _∷_, _++_}
 use mathlib.Core.Logic.{_⊎_, inl, inr, ⊎-elim}
@@ -10,7 +10,7 @@ use native.Mathlib.Nat.{lt-trans}
 use native.Mathlib.Omega.{arith}
 use lib.Dec.{leb, leb→le, ltb, ltb→lt, T}
 use Rattle.laws.specs.BooleanLaws.{and-left, and-right, and-both}
-use Rattle.laws.specs.Cases.{Case, _when_, lower, lowest}
+use Rattle.laws.specs.Cases.{Case, _when_, lower, lowest, andWhere}
 
 -- ---- the first that holds, which is how a program looks for the lowest
 
@@ -260,3 +260,53 @@ several-pass r n cs ds t e z =
     lowest-joined cs ds
     ∙ ap (λ (k : ℕ). lower k (lowest ds)) (sym e ∙ z)
     ∙ lowest-of-ascending-is-first n ds t
+
+-- ---- one condition after another, in a straight line
+
+-- how a program gives it
+module _ (r : ℕ) (b : Bool) (n : ℕ) where
+  pub and-where-refused : (r ≡ 0 → ⊥) → r ≡ andWhere r b n
+  unfolding andWhere
+  and-where-refused ne = go r ne
+    where
+      go : (m : ℕ) → (m ≡ 0 → ⊥) → m ≡ andWhere m b n
+      go zero f = absurd (f refl)
+      go (suc m) f = refl
+
+  pub and-where-holds : r ≡ 0 → b ≡ true → n ≡ andWhere r b n
+  unfolding andWhere
+  and-where-holds z t = rw (z, t) refl
+
+  pub and-where-passes : r ≡ 0 → b ≡ false → 0 ≡ andWhere r b n
+  unfolding andWhere
+  and-where-passes z f = rw (z, f) refl
+
+-- one after another
+abbrev pub through : ℕ → List Case → ℕ
+through r [] = r
+through r (c ∷ cs) = through (andWhere r (c .holds) (c .number)) cs
+
+through-refused : (r : ℕ) (ds : List Case) → through (suc r) ds ≡ suc r
+unfolding andWhere
+through-refused r [] = refl
+through-refused r (c ∷ ds) = through-refused r ds
+
+through-first : (n : ℕ) (ds : List Case) → T (ascending n ds) → through 0 ds ≡ first ds
+unfolding andWhere first
+through-first n [] t = refl
+through-first n (c ∷ ds) t = go (c .holds) (c .number) (rises n c ds t) (through-first (c .number) ds (onward n c ds t))
+  where
+    go : (b : Bool) (m : ℕ) → n < m → through 0 ds ≡ first ds → through (cond b m 0) ds ≡ cond b m (first ds)
+    go true zero h e = absurd (omega arith)
+    go true (suc m) h e = through-refused m ds
+    go false m h e = e
+
+-- one more, where the number so far and the condition are known by other names
+pub and-next : (n : ℕ) {r x : ℕ} {b y : Bool} {k : ℕ} → k ≡ andWhere r b n → r ≡ x → b ≡ y → k ≡ andWhere x y n
+and-next n e p q = e ∙ ap₂ (λ (i : ℕ) (c : Bool). andWhere i c n) p q
+
+-- r, the lowest number of a front whose numbers are n at most, and then each condition of a rest that rises from n
+pub further : (r n : ℕ) (cs ds : List Case) → T (upTo n cs) → T (ascending n ds) → r ≡ lowest cs
+    → through r ds ≡ lowest (cs ++ ds)
+further zero n cs ds u t e = through-first n ds t ∙ sym (several-pass zero n cs ds t e refl)
+further (suc r) n cs ds u t e = through-refused r ds ∙ several-refuse (suc r) n cs ds u t e (λ z. omega arith)

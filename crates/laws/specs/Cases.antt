@@ -23,3 +23,8 @@ lower (suc m) (suc n) = min (suc m) (suc n)
 unfoldable pub lowest : List Case → ℕ
 lowest [] = 0
 lowest (c ∷ cs) = cond (c .holds) (lower (c .number) (lowest cs)) (lowest cs)
+
+-- a further condition: the number so far, or where there is none and this holds, that number
+unfoldable pub andWhere : ℕ → Bool → ℕ → ℕ
+andWhere zero b n = cond b n 0
+andWhere (suc r) b n = suc r

@@ -1,12 +1,14 @@
 // The C interface (document 01, "The bench"): a slice comes from C as a pointer and a length; host/lcd.h declares the calls. Each is
 // thin and asks the crate below. 0 is done, any other answer the number of the refusal, and then nothing lent is changed.
 ghost use mathlib.Core.Path.{_≡_};
+ghost use Rattle.drawing.specs.Colour.{lending};
 ghost use Rattle.laws.specs.Answers.{leaves};
 ghost use Rattle.memory.specs.Memory.{check};
 ghost use Rattle.sizes.specs.Counts.{readCounts};
 ghost use Rattle.lcd.specs.Calls.{drawRow, drawPicture};
 use drawing::picture::draw_picture;
 use drawing::row::draw_row;
+use memory::Screen;
 use memory::check;
 use registers::Loaded;
 use registers::load;
@@ -44,10 +46,16 @@ pub extern "C" fn lcd_draw_row(
     row: u32,
     out: &mut [u32],
 ) -> u32
-    ensures { λ r. ⌜ leaves r (now (out .exit)) ≡ drawRow (now (words .entry)) «window_start» (now (video .entry)) (now (palette .entry)) row (now (out .entry)) ⌝ }
+    ensures { λ r. ⌜ leaves r (now (out .exit)) ≡ drawRow (now (words .entry)) «window_start» (lending (now (video .entry)) (now (palette .entry))) row (now (out .entry)) ⌝ }
 {
     match load(words) {
-        Loaded::Nine(w) => draw_row(w, window_start, video, palette, row, out),
+        Loaded::Nine(w) => {
+            let s = Screen {
+                words: w,
+                window_start,
+            };
+            draw_row(s, video, palette, row, out)
+        }
         Loaded::Refused(n) => n,
     }
 }
@@ -62,10 +70,16 @@ pub extern "C" fn lcd_draw_picture(
     palette: &[u16],
     picture: &mut [u32],
 ) -> u32
-    ensures { λ r. ⌜ leaves r (now (picture .exit)) ≡ drawPicture (now (words .entry)) «window_start» (now (video .entry)) (now (palette .entry)) (now (picture .entry)) ⌝ }
+    ensures { λ r. ⌜ leaves r (now (picture .exit)) ≡ drawPicture (now (words .entry)) «window_start» (lending (now (video .entry)) (now (palette .entry))) (now (picture .entry)) ⌝ }
 {
     match load(words) {
-        Loaded::Nine(w) => draw_picture(w, window_start, video, palette, picture),
+        Loaded::Nine(w) => {
+            let s = Screen {
+                words: w,
+                window_start,
+            };
+            draw_picture(s, video, palette, picture)
+        }
         Loaded::Refused(n) => n,
     }
 }

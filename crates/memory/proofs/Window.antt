@@ -17,7 +17,7 @@ use Rattle.panel.proofs.Bounds.{row-offset-le}
 use Rattle.panel.proofs.Modes.{stored-bits-pos}
 use Rattle.registers.specs.Fields.{pagewidth, bppmode}
 use Rattle.registers.specs.declared.Words.{Words}
-use Rattle.memory.specs.Memory.{rowAddress, rowWords, wordOutside, outsideMemory}
+use Rattle.memory.specs.Memory.{screen, rowAddress, rowWords, wordOutside, outsideMemory}
 
 -- ---- rows
 
@@ -45,61 +45,61 @@ row-at-word w a r = omega (arith, row-starts-at-word w a r)
 -- ---- the closed form
 
 abbrev pub beforeWindow : Words → ℕ → Bool
-beforeWindow w start = ltb (rowAddress w 0) start
+beforeWindow w window-start = ltb (rowAddress w 0) window-start
 
 abbrev pub pastWindow : Words → ℕ → ℕ → Bool
-pastWindow w start lent = ltb (start + 4 * lent) (rowAddress w (height w - 1) + 2 * pagewidth w)
+pastWindow w window-start lent = ltb (window-start + 4 * lent) (rowAddress w (height w - 1) + 2 * pagewidth w)
 
-module _ (w : Words) (a : Accepted w) (start lent : ℕ) where
+module _ (w : Words) (a : Accepted w) (window-start lent : ℕ) where
   someWord : ℕ → Bool
-  someWord r = someBelow (rowWords w) (λ i. wordOutside start lent (rowAddress w r + 4 * i))
+  someWord r = someBelow (rowWords w) (λ i. wordOutside window-start lent (rowAddress w r + 4 * i))
 
-  inside : beforeWindow w start ≡ false → pastWindow w start lent ≡ false → someBelow (height w) someWord ≡ false
+  inside : beforeWindow w window-start ≡ false → pastWindow w window-start lent ≡ false → someBelow (height w) someWord ≡ false
   unfolding someWord wordOutside
   inside first last =
       none-below (height w) someWord
       (λ r h.
-      none-below (rowWords w) (λ i. wordOutside start lent (rowAddress w r + 4 * i))
+      none-below (rowWords w) (λ i. wordOutside window-start lent (rowAddress w r + 4 * i))
       (λ i l.
       or-false
-      (le-ltb (rowAddress w r + 4 * i) start
-      (omega (arith, ltb-false (rowAddress w 0) start first, rows-rise w 0 r (omega arith))))
-      (le-ltb (start + 4 * lent) (rowAddress w r + 4 * i + 4)
+      (le-ltb (rowAddress w r + 4 * i) window-start
+      (omega (arith, ltb-false (rowAddress w 0) window-start first, rows-rise w 0 r (omega arith))))
+      (le-ltb (window-start + 4 * lent) (rowAddress w r + 4 * i + 4)
       (omega (
         arith,
-        ltb-false (start + 4 * lent) (rowAddress w (height w - 1) + 2 * pagewidth w) last,
+        ltb-false (window-start + 4 * lent) (rowAddress w (height w - 1) + 2 * pagewidth w) last,
         rows-rise w r (height w - 1) (omega arith),
         a .row-even,
       )))))
 
-  first-word : beforeWindow w start ≡ true → someBelow (height w) someWord ≡ true
+  first-word : beforeWindow w window-start ≡ true → someBelow (height w) someWord ≡ true
   unfolding someWord wordOutside
   first-word t =
       one-below (height w) someWord 0 (omega arith)
-      (one-below (rowWords w) (λ i. wordOutside start lent (rowAddress w 0 + 4 * i)) 0 (omega (arith, row-has-words w a))
-      (rw (lt-ltb (rowAddress w 0 + 4 * 0) start (omega (arith, ltb-true (rowAddress w 0) start t)))))
+      (one-below (rowWords w) (λ i. wordOutside window-start lent (rowAddress w 0 + 4 * i)) 0 (omega (arith, row-has-words w a))
+      (rw (lt-ltb (rowAddress w 0 + 4 * 0) window-start (omega (arith, ltb-true (rowAddress w 0) window-start t)))))
 
-  last-word : pastWindow w start lent ≡ true → someBelow (height w) someWord ≡ true
+  last-word : pastWindow w window-start lent ≡ true → someBelow (height w) someWord ≡ true
   unfolding someWord wordOutside
   last-word t =
       one-below (height w) someWord (height w - 1) (omega arith)
-      (one-below (rowWords w) (λ i. wordOutside start lent (rowAddress w (height w - 1) + 4 * i)) (rowWords w - 1)
+      (one-below (rowWords w) (λ i. wordOutside window-start lent (rowAddress w (height w - 1) + 4 * i)) (rowWords w - 1)
       (omega (arith, row-has-words w a))
-      (ap (λ (b : Bool). ltb (rowAddress w (height w - 1) + 4 * (rowWords w - 1)) start || b)
-      (lt-ltb (start + 4 * lent) (rowAddress w (height w - 1) + 4 * (rowWords w - 1) + 4)
+      (ap (λ (b : Bool). ltb (rowAddress w (height w - 1) + 4 * (rowWords w - 1)) window-start || b)
+      (lt-ltb (window-start + 4 * lent) (rowAddress w (height w - 1) + 4 * (rowWords w - 1) + 4)
       (omega (
         arith,
-        ltb-true (start + 4 * lent) (rowAddress w (height w - 1) + 2 * pagewidth w) t,
+        ltb-true (window-start + 4 * lent) (rowAddress w (height w - 1) + 2 * pagewidth w) t,
         row-has-words w a,
         a .row-even,
       )))
-      ∙ or-true (ltb (rowAddress w (height w - 1) + 4 * (rowWords w - 1)) start)))
+      ∙ or-true (ltb (rowAddress w (height w - 1) + 4 * (rowWords w - 1)) window-start)))
 
-  pub closed-form : outsideMemory w start lent ≡ not (eqb (start % 4) 0) || (beforeWindow w start || pastWindow w start lent)
+  pub closed-form : outsideMemory (screen w window-start) lent ≡ not (eqb (window-start % 4) 0) || (beforeWindow w window-start || pastWindow w window-start lent)
   unfolding outsideMemory someWord
-  closed-form = ap (λ (b : Bool). not (eqb (start % 4) 0) || b) (go (beforeWindow w start) refl (pastWindow w start lent) refl)
+  closed-form = ap (λ (b : Bool). not (eqb (window-start % 4) 0) || b) (go (beforeWindow w window-start) refl (pastWindow w window-start lent) refl)
     where
-      go : (p : Bool) → beforeWindow w start ≡ p → (q : Bool) → pastWindow w start lent ≡ q
+      go : (p : Bool) → beforeWindow w window-start ≡ p → (q : Bool) → pastWindow w window-start lent ≡ q
           → someBelow (height w) someWord ≡ p || q
       go true e q e′ = first-word e
       go false e true e′ = last-word e′
@@ -107,44 +107,44 @@ module _ (w : Words) (a : Accepted w) (start lent : ℕ) where
 
   -- ---- how a program looks: at the start, and then at the end
 
-  pub outside-early : not (eqb (start % 4) 0) || beforeWindow w start ≡ true → true ≡ outsideMemory w start lent
-  outside-early t = go (not (eqb (start % 4) 0)) (beforeWindow w start) (pastWindow w start lent) t ∙ sym closed-form
+  pub outside-early : not (eqb (window-start % 4) 0) || beforeWindow w window-start ≡ true → true ≡ outsideMemory (screen w window-start) lent
+  outside-early t = go (not (eqb (window-start % 4) 0)) (beforeWindow w window-start) (pastWindow w window-start lent) t ∙ sym closed-form
     where
       go : (m b p : Bool) → m || b ≡ true → true ≡ m || (b || p)
       go true b p e = refl
       go false true p e = refl
       go false false p e = absurd (true≢false (sym e))
 
-  module _ (f : not (eqb (start % 4) 0) || beforeWindow w start ≡ false) where
-    pub start-at-word : start % 4 ≡ 0
+  module _ (f : not (eqb (window-start % 4) 0) || beforeWindow w window-start ≡ false) where
+    pub start-at-word : window-start % 4 ≡ 0
     start-at-word =
-        eqb-true (start % 4) 0
-        (not-false (eqb (start % 4) 0) (or-false-left (not (eqb (start % 4) 0)) (beforeWindow w start) f))
+        eqb-true (window-start % 4) 0
+        (not-false (eqb (window-start % 4) 0) (or-false-left (not (eqb (window-start % 4) 0)) (beforeWindow w window-start) f))
 
-    pub start-before : start ≤ rowAddress w 0
-    start-before = ltb-false (rowAddress w 0) start (or-false-right (not (eqb (start % 4) 0)) (beforeWindow w start) f)
+    pub start-before : window-start ≤ rowAddress w 0
+    start-before = ltb-false (rowAddress w 0) window-start (or-false-right (not (eqb (window-start % 4) 0)) (beforeWindow w window-start) f)
 
-    pub outside-late : ltb lent ((rowAddress w (height w - 1) + 2 * pagewidth w - start) / 4) ≡ outsideMemory w start lent
+    pub outside-late : ltb lent ((rowAddress w (height w - 1) + 2 * pagewidth w - window-start) / 4) ≡ outsideMemory (screen w window-start) lent
     outside-late =
-        go (pastWindow w start lent) refl
+        go (pastWindow w window-start lent) refl
         ∙ sym (closed-form
         ∙ rw (
-          or-false-left (not (eqb (start % 4) 0)) (beforeWindow w start) f,
-          or-false-right (not (eqb (start % 4) 0)) (beforeWindow w start) f,
+          or-false-left (not (eqb (window-start % 4) 0)) (beforeWindow w window-start) f,
+          or-false-right (not (eqb (window-start % 4) 0)) (beforeWindow w window-start) f,
         ))
       where
-        go : (p : Bool) → pastWindow w start lent ≡ p → ltb lent ((rowAddress w (height w - 1) + 2 * pagewidth w - start) / 4) ≡ pastWindow w start lent
+        go : (p : Bool) → pastWindow w window-start lent ≡ p → ltb lent ((rowAddress w (height w - 1) + 2 * pagewidth w - window-start) / 4) ≡ pastWindow w window-start lent
         go true e =
-            lt-ltb lent ((rowAddress w (height w - 1) + 2 * pagewidth w - start) / 4)
+            lt-ltb lent ((rowAddress w (height w - 1) + 2 * pagewidth w - window-start) / 4)
             (omega (
               arith,
-              ltb-true (start + 4 * lent) (rowAddress w (height w - 1) + 2 * pagewidth w) e,
+              ltb-true (window-start + 4 * lent) (rowAddress w (height w - 1) + 2 * pagewidth w) e,
               start-at-word,
               row-at-word w a (height w - 1),
               a .row-even,
             ))
             ∙ sym e
         go false e =
-            le-ltb lent ((rowAddress w (height w - 1) + 2 * pagewidth w - start) / 4)
-            (omega (arith, ltb-false (start + 4 * lent) (rowAddress w (height w - 1) + 2 * pagewidth w) e))
+            le-ltb lent ((rowAddress w (height w - 1) + 2 * pagewidth w - window-start) / 4)
+            (omega (arith, ltb-false (window-start + 4 * lent) (rowAddress w (height w - 1) + 2 * pagewidth w) e))
             ∙ sym e

@@ -1,13 +1,20 @@
 // The lent video memory (document 01, "Where a pixel lies", "Numbers of refusal"): where a row lies in it, refusal 8, and the check.
 ghost use mathlib.Core.Path.{_≡_};
+ghost use Prim.Native.Nat.{_^_, _<_};
 ghost use Rattle.panel.specs.Refusals.{judge};
-ghost use Rattle.memory.specs.Memory.{rowAddress, outsideMemory, judgeMemory, check};
+ghost use Rattle.memory.specs.Memory.{screen, rowAddress, outsideMemory, judgeMemory, check, firstWord};
 use panel::geometry::height;
 use panel::geometry::row_offset;
 use panel::refusals::judge;
 use registers::Loaded;
 use registers::Words;
 use registers::load;
+
+// What a screen is drawn by, beside what is lent: the nine words, and the byte address of the lent memory's first word.
+pub struct Screen {
+    pub words: Words,
+    pub window_start: u32,
+}
 
 // The byte address at which a row starts.
 pub fn row_address(w: Words, row: u32) -> u64
@@ -16,32 +23,55 @@ pub fn row_address(w: Words, row: u32) -> u64
     w.lcdbank() as u64 * 0x40_0000 + 2 * row_offset(w, row)
 }
 
-// Refusal 8, where 1 to 7 are past: it is enough to look at the first row and at the last.
-fn outside_memory(w: Words, window_start: u32, lent: usize) -> bool
-    requires { ⌜ judge w ≡ 0 ⌝ }
-    ensures { λ r. ⌜ r ≡ outsideMemory w «window_start» lent ⌝ }
+// The place of a row's first word among the lent words; 0 for a row that starts before them.
+pub fn first_word(s: Screen, row: u32) -> usize
+    ensures { λ r. ⌜ r ≡ firstWord s row ⌝ }
+    ensures { λ r. ⌜ r < 2 ^ 44 ⌝ }
 {
-    let start = window_start as u64;
-    let first = row_address(w, 0);
-    let end = row_address(w, height(w) - 1) + 2 * w.pagewidth() as u64;
-    if (window_start % 4 != 0) | (first < start) {
+    let address = row_address(s.words, row);
+    let window_start = s.window_start as u64;
+    if address < window_start {
+        return 0;
+    }
+    ((address - window_start) / 4) as usize
+}
+
+// Refusal 8, where 1 to 7 are past: it is enough to look at the first row and at the last.
+fn outside_memory(s: Screen, lent: usize) -> bool
+    requires { ⌜ judge (s .words) ≡ 0 ⌝ }
+    ensures { λ r. ⌜ r ≡ outsideMemory s lent ⌝ }
+{
+    let window_start = s.window_start as u64;
+    let first = row_address(s.words, 0);
+    let end = row_address(s.words, height(s.words) - 1) + 2 * s.words.pagewidth() as u64;
+    if (window_start % 4 != 0) | (first < window_start) {
         return true;
     }
-    (lent as u64) < (end - start) / 4
+    (lent as u64) < (end - window_start) / 4
 }
 
 // The lowest of the numbers 1 to 8 whose condition holds, 0 where none does, where so many words are lent.
-pub fn judge_memory(w: Words, window_start: u32, lent: usize) -> u32
-    ensures { λ r. ⌜ r ≡ judgeMemory w «window_start» lent ⌝ }
+pub fn judge_memory(s: Screen, lent: usize) -> u32
+    ensures { λ r. ⌜ r ≡ judgeMemory s lent ⌝ }
 {
-    let refusal = judge(w);
+    let refusal = judge(s.words);
     if refusal != 0 {
         return refusal;
     }
-    if outside_memory(w, window_start, lent) {
+    if outside_memory(s, lent) {
         return 8;
     }
     0
+}
+
+fn check_words(words: Words, window_start: u32, lent: usize) -> u32
+    ensures { λ r. ⌜ r ≡ judgeMemory (screen words «window_start») lent ⌝ }
+{
+    let s = Screen {
+        words,
+        window_start,
+    };
+    judge_memory(s, lent)
 }
 
 // The check: the lowest number that applies, 10 for a slice short of nine words before 1 to 8, and 0 where none does.
@@ -49,7 +79,7 @@ pub fn check(words: &[u32], window_start: u32, video: &[u32]) -> u32
     ensures { λ r. ⌜ r ≡ check (now (words .entry)) «window_start» (now (video .entry)) ⌝ }
 {
     match load(words) {
-        Loaded::Nine(w) => judge_memory(w, window_start, video.len()),
+        Loaded::Nine(w) => check_words(w, window_start, video.len()),
         Loaded::Refused(n) => n,
     }
 }

@@ -1,4 +1,4 @@
--- The conditions numbered 2 to 7 (document 01, "Numbers of refusal"), each under the table's own words, and the judgement by 1 to 7.
+-- The conditions numbered 2 to 7, and 9 (document 01, "Numbers of refusal"), and the judgement by 1 to 7, which leaves 9 to others.
 -- Promises cite it, so a reader must believe it. Assumes nothing.
 use mathlib.Core.Bool.{Bool, not, _&&_, _||_}
 use mathlib.Core.List.{List, [], _∷_}
@@ -6,7 +6,7 @@ use Prim.Native.Nat.{ℕ, _+_, _-_, _*_, _%_, _^_}
 use lib.Dec.{eqb, ltb}
 use Rattle.laws.specs.Answers.{Answer, judged, andThen}
 use Rattle.laws.specs.Cases.{Case, _when_, lowest}
-use Rattle.registers.specs.Fields.{pnrmode, bppmode, bswp, hwswp, lcdbaseu, lcdbasel, pagewidth, offsize, reservedBit}
+use Rattle.registers.specs.Fields.{envid, pnrmode, bppmode, bswp, hwswp, lcdbaseu, lcdbasel, pagewidth, offsize, reservedBit}
 use Rattle.registers.specs.Loading.{load}
 use Rattle.registers.specs.declared.Words.{Words}
 use Rattle.panel.specs.Geometry.{width, height, storedBits, outsideModes, rowOffset}
@@ -65,3 +65,7 @@ judge w = lowest (wordCases w)
 -- the words that a slice begins with, where 1 to 7 accept them: "10 for a slice short of nine words" comes before all
 unfoldable pub accept : List ℕ → Answer Words
 accept s = andThen (load s) (λ w. judged (judge w) w)
+
+-- 9: ENVID is 0, where a call shows the screen
+unfoldable pub videoOff : Words → Bool
+videoOff w = eqb (envid w) 0

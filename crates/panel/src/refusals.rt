@@ -1,10 +1,10 @@
-// Refusals 1 to 7: what the words alone decide. Each condition stands in a function of its own.
+// Refusals 1 to 7, and 9: what the words alone decide. Each condition stands in a function of its own; `judge` is of 1 to 7.
 ghost use mathlib.Core.Path.{_≡_};
 ghost use Rattle.laws.specs.Answers.{judged};
-ghost use Rattle.laws.specs.Cases.{lower};
+ghost use Rattle.laws.specs.Cases.{lower, andWhere};
 ghost use Rattle.registers.specs.Loading.{loaded};
 ghost use Rattle.panel.specs.Refusals.{notTft, noSuchMode, swapsIllegal, rowSizeWrong, endDiffers, pastBank};
-ghost use Rattle.panel.specs.Refusals.{judge, accept};
+ghost use Rattle.panel.specs.Refusals.{judge, videoOff, accept};
 use super::geometry::Depth;
 use super::geometry::bits_of;
 use super::geometry::height;
@@ -61,32 +61,37 @@ fn past_bank(w: Words) -> bool
     0x20_0000 < row_offset(w, height(w) - 1) + w.pagewidth() as u64
 }
 
+// A further condition: the number so far, or where there is none and this holds, that number.
+pub fn and_where(refusal: u32, holds: bool, number: u32) -> u32
+    ensures { λ r. ⌜ r ≡ andWhere refusal holds number ⌝ }
+{
+    if refusal != 0 {
+        return refusal;
+    }
+    if holds {
+        return number;
+    }
+    0
+}
+
 // The lowest of the numbers 1 to 7 whose condition holds, 0 where none does.
 pub fn judge(w: Words) -> u32
     ensures { λ r. ⌜ r ≡ judge w ⌝ }
 {
-    if w.reserved_bit() {
-        return 1;
-    }
-    if not_tft(w) {
-        return 2;
-    }
-    if no_such_mode(w) {
-        return 3;
-    }
-    if swaps_illegal(w) {
-        return 4;
-    }
-    if row_size_wrong(w) {
-        return 5;
-    }
-    if end_differs(w) {
-        return 6;
-    }
-    if past_bank(w) {
-        return 7;
-    }
-    0
+    let to_1 = and_where(0, w.reserved_bit(), 1);
+    let to_2 = and_where(to_1, not_tft(w), 2);
+    let to_3 = and_where(to_2, no_such_mode(w), 3);
+    let to_4 = and_where(to_3, swaps_illegal(w), 4);
+    let to_5 = and_where(to_4, row_size_wrong(w), 5);
+    let to_6 = and_where(to_5, end_differs(w), 6);
+    and_where(to_6, past_bank(w), 7)
+}
+
+// Refusal 9.
+pub fn video_off(w: Words) -> bool
+    ensures { λ r. ⌜ r ≡ videoOff w ⌝ }
+{
+    w.envid() == 0
 }
 
 // The lower of two refusal numbers, where 0 is no refusal.

@@ -7,9 +7,10 @@ use Prim.Native.Nat.{ℕ, suc}
 use lib.Dec.{T, eqb}
 use Rattle.registers.specs.Loading as Loading
 use Rattle.panel.specs.Geometry.{storedBits, outsideModes}
+use Rattle.pixels.specs.declared.colours.Expansion.the-variants.{Rgb565, Rgb5551}
 use Rattle.pixels.specs.Colours.{expanded565, expanded5551, expanded, cut24}
 use Rattle.pixels.specs.Order.{reverseBytes, exchangeHalves, inOrder, pixelBits}
-use Rattle.pixels.specs.Format.{format}
+use Rattle.pixels.specs.Format.{expansionOf, format}
 
 -- ---- the pixels of the word 0x01234567
 
@@ -80,8 +81,8 @@ examples =
     ∷ expanded5551 0x0040 gives 0x000800
     ∷ expanded5551 0x0002 gives 0x000008
     -- FRM565 chooses
-    ∷ expanded true 0x0001 gives 0x000008
-    ∷ expanded false 0x0001 gives 0x040404
+    ∷ expanded Rgb565 0x0001 gives 0x000008
+    ∷ expanded Rgb5551 0x0001 gives 0x040404
     ∷ []
 
 abbrev pub agree : List Example → Bool
@@ -96,12 +97,12 @@ examples-agree = tt
 
 -- T9: BPPMODE 12, FRM565, HWSWP
 pub t9-format : format (Loading.nineWords (0x479 ∷ 0x014FC041 ∷ 0x0098EF09 ∷ 0x9 ∷ 0xB09 ∷ 0x18000000 ∷ 0x12C00 ∷ 0xF0 ∷ 0 ∷ []))
-    ≡ record { bits = 16; bswp = false; hwswp = true; bpp24bl = false; frm565 = true; tpalen = false; tpalval = 0 }
-unfolding format storedBits outsideModes
+    ≡ record { bits = 16; bswp = false; hwswp = true; bpp24bl = false; expansion = Rgb565; tpalen = false; tpalval = 0 }
+unfolding format expansionOf storedBits outsideModes
 t9-format = refl
 
 -- T1's words with BPP24BL, BSWP and a temporary palette: what T9 has clear is set, and the other way round
 pub t1-format-changed : format (Loading.nineWords (0x7B ∷ 0x4000 ∷ 0 ∷ 0 ∷ 0x1002 ∷ 0x18000000 ∷ 4 ∷ 2 ∷ 0x1123456 ∷ []))
-    ≡ record { bits = 32; bswp = true; hwswp = false; bpp24bl = true; frm565 = false; tpalen = true; tpalval = 0x123456 }
-unfolding format storedBits outsideModes
+    ≡ record { bits = 32; bswp = true; hwswp = false; bpp24bl = true; expansion = Rgb5551; tpalen = true; tpalval = 0x123456 }
+unfolding format expansionOf storedBits outsideModes
 t1-format-changed = refl

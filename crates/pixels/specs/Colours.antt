@@ -1,6 +1,9 @@
--- Colours (document 01, "Colours"): the 24 lines VD23..VD0 as a number. "Unused lines are 0 (house)." Assumes nothing.
+-- Colours (document 01, "Colours"): the 24 lines VD23..VD0 as a number. "Unused lines are 0 (house)."
+-- Promises cite it, so a reader must believe it. Assumes nothing.
 use mathlib.Core.Bool.{Bool, cond}
 use Prim.Native.Nat.{ℕ, suc, _+_, _-_, _*_, _/_, _%_, _^_}
+use Rattle.pixels.specs.declared.colours.Expansion.{Expansion}
+use Rattle.pixels.specs.declared.colours.Expansion.the-variants.{Rgb565, Rgb5551}
 
 -- bits high..low of a number
 abbrev pub bits : ℕ → ℕ → ℕ → ℕ
@@ -17,8 +20,9 @@ expanded5551 v =
     + (bits 0 0 v * 2 ^ 18 + bits 0 0 v * 2 ^ 10 + bits 0 0 v * 2 ^ 2)
 
 -- "A 16-bit number (palette or pixel) becomes the 24 lines"
-unfoldable pub expanded : Bool → ℕ → ℕ
-expanded frm565 v = cond frm565 (expanded565 v) (expanded5551 v)
+unfoldable pub expanded : Expansion → ℕ → ℕ
+expanded Rgb565 v = expanded565 v
+expanded Rgb5551 v = expanded5551 v
 
 -- "At 24 bits, BPP24BL = 0 takes bits 23..0 and 1 takes bits 31..8."
 unfoldable pub cut24 : Bool → ℕ → ℕ

@@ -2,6 +2,12 @@
 ghost use mathlib.Core.Path.{_≡_};
 ghost use Rattle.pixels.specs.Colours.{expanded565, expanded5551, expanded, cut24};
 
+// How a number of 16 bits becomes 24 lines.
+pub enum Expansion {
+    Rgb565,
+    Rgb5551,
+}
+
 // 5:6:5.
 pub fn expand_565(v: u32) -> u32
     ensures { λ r. ⌜ r ≡ expanded565 v ⌝ }
@@ -17,13 +23,12 @@ pub fn expand_5551(v: u32) -> u32
 }
 
 // A number of 16 bits.
-pub fn expand(v: u32, frm565: bool) -> u32
-    ensures { λ r. ⌜ r ≡ expanded frm565 v ⌝ }
+pub fn expand(v: u32, expansion: Expansion) -> u32
+    ensures { λ r. ⌜ r ≡ expanded expansion v ⌝ }
 {
-    if frm565 {
-        expand_565(v)
-    } else {
-        expand_5551(v)
+    match expansion {
+        Expansion::Rgb565 => expand_565(v),
+        Expansion::Rgb5551 => expand_5551(v),
     }
 }
 

@@ -1,6 +1,7 @@
 // What the words say about the meaning of a pixel's bits, read from them once.
 ghost use mathlib.Core.Path.{_≡_};
-ghost use Rattle.pixels.specs.Format.{format};
+ghost use Rattle.pixels.specs.Format.{expansionOf, format};
+use super::colours::Expansion;
 use panel::geometry::bits_of;
 use registers::Words;
 
@@ -10,9 +11,18 @@ pub struct Format {
     pub bswp: bool,
     pub hwswp: bool,
     pub bpp24bl: bool,
-    pub frm565: bool,
+    pub expansion: Expansion,
     pub tpalen: bool,
     pub tpalval: u32,
+}
+
+fn expansion_of(w: Words) -> Expansion
+    ensures { λ r. ⌜ r ≡ expansionOf w ⌝ }
+{
+    if w.frm565() == 1 {
+        return Expansion::Rgb565;
+    }
+    Expansion::Rgb5551
 }
 
 // The format of the words' pixels.
@@ -24,7 +34,7 @@ pub fn format_of(w: Words) -> Format
         bswp: w.bswp() == 1,
         hwswp: w.hwswp() == 1,
         bpp24bl: w.bpp24bl() == 1,
-        frm565: w.frm565() == 1,
+        expansion: expansion_of(w),
         tpalen: w.tpalen() == 1,
         tpalval: w.tpalval(),
     }

@@ -2,56 +2,38 @@
 // column"). It holds the lent memory, the words and the window start, so that a caller asks for one pixel after another and lends
 // the palette alone. It keeps nothing else and judges each lookup anew: `drawing` does the work.
 ghost use mathlib.Core.Path.{_≡_};
-ghost use Rattle.drawing.specs.Drawing.{drawn, drawPixel};
+ghost use Rattle.drawing.specs.Colour.{lending};
+ghost use Rattle.drawing.specs.Drawing.{drawnPixel, drawPixel};
 ghost use Rattle.reader.specs.Reading.{readerOf, lookUp};
 use drawing::pixel::Drawn;
 use drawing::pixel::draw_pixel;
-use registers::Words;
+use memory::Screen;
 
-// The words, the byte address of the lent memory, and that memory.
+// The words with the byte address of the lent memory, and that memory.
 pub struct Reader<'a> {
-    pub words: Words,
-    pub window_start: u32,
+    pub screen: Screen,
     pub video: &'a [u32],
 }
 
 impl<'a> Reader<'a> {
     // A reader over a lent memory. Nothing is judged yet.
-    pub fn new(words: Words, window_start: u32, video: &'a [u32]) -> Reader<'a>
-        ensures { λ r. ⌜ r ≡ readerOf words «window_start» (video .entry) ⌝ }
+    pub fn new(screen: Screen, video: &'a [u32]) -> Reader<'a>
+        ensures { λ r. ⌜ r ≡ readerOf screen (video .entry) ⌝ }
     {
-        Reader {
-            words,
-            window_start,
-            video,
-        }
+        Reader { screen, video }
     }
 
     // The colour of the pixel in a row and column, or the number of the refusal, as `draw_pixel` gives them.
     pub fn pixel(self, palette: &[u16], row: u32, column: u32) -> Drawn
-        ensures { λ r. ⌜ drawn r ≡ lookUp (self .entry) (now (palette .entry)) row column ⌝ }
+        ensures { λ r. ⌜ drawnPixel r ≡ lookUp (self .entry) (now (palette .entry)) row column ⌝ }
     {
-        draw_pixel(
-            self.words,
-            self.window_start,
-            self.video,
-            palette,
-            row,
-            column,
-        )
+        draw_pixel(self.screen, self.video, palette, row, column)
     }
 }
 
 // One pixel through a reader that is made for it. No parameter is a reader, so a caller's proof needs no walk by hand.
-pub fn read_pixel(
-    words: Words,
-    window_start: u32,
-    video: &[u32],
-    palette: &[u16],
-    row: u32,
-    column: u32,
-) -> Drawn
-    ensures { λ r. ⌜ drawn r ≡ drawPixel words «window_start» (now (video .entry)) (now (palette .entry)) row column ⌝ }
+pub fn read_pixel(screen: Screen, video: &[u32], palette: &[u16], row: u32, column: u32) -> Drawn
+    ensures { λ r. ⌜ drawnPixel r ≡ drawPixel screen (lending (now (video .entry)) (now (palette .entry))) row column ⌝ }
 {
-    Reader::new(words, window_start, video).pixel(palette, row, column)
+    Reader::new(screen, video).pixel(palette, row, column)
 }

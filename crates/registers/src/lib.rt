@@ -1,7 +1,7 @@
 // The nine words of the LCD controller (document 01, "The nine words").
 ghost use mathlib.Core.Path.{_≡_};
 ghost use Rattle.laws.specs.Answers.{leaves};
-ghost use Rattle.registers.specs.Loading.{loaded, load, wordEntries, putEntries};
+ghost use Rattle.registers.specs.Loading.{loaded, load, putEntries};
 
 mod bits;
 
@@ -42,23 +42,6 @@ pub fn load(words: &[u32]) -> Loaded
         lcdsaddr3: words[7],
         tpal: words[8],
     })
-}
-
-// The words in the order in which a slice has them.
-pub fn word_entries(w: Words) -> [u32; 9]
-    ensures { λ r. ⌜ r ≡ wordEntries w ⌝ }
-{
-    [
-        w.lcdcon1,
-        w.lcdcon2,
-        w.lcdcon3,
-        w.lcdcon4,
-        w.lcdcon5,
-        w.lcdsaddr1,
-        w.lcdsaddr2,
-        w.lcdsaddr3,
-        w.tpal,
-    ]
 }
 
 // The numbers to the first entries of a lent slice; the others stay. 10 where the slice has fewer entries, and then it stays as it was.

@@ -13,33 +13,25 @@ use Rattle.laws.specs.Answers.{judged, accepted}
 use Rattle.laws.specs.BooleanLaws.{or-false, or-false-left, or-false-right}
 use Rattle.laws.specs.Cases.{Case, _when_, lowest, lower}
 use Rattle.laws.specs.CaseLaws.{NoneHolds, lowest-zero-none-holds, joined-pass, pass-joined, none-of-one}
-use Rattle.drawing.specs.Colour.{colour}
-use Rattle.drawing.specs.Drawing.{videoOff, paletteWrong, rowOutside, columnOutside, drawingCases, judgePixel, drawPixel}
-use Rattle.memory.specs.Memory.{memoryCases}
+use Rattle.drawing.specs.Colour.{Lent, colour}
+use Rattle.drawing.specs.Drawing.{paletteWrong, rowOutside, columnOutside, colourTail, drawingCases, judgePixel, drawPixel}
+use Rattle.panel.specs.Refusals.{videoOff}
+use Rattle.memory.specs.Memory.{screen, memoryCases}
 use Rattle.panel.specs.Geometry.{width, height}
 use Rattle.registers.specs.Fields.{lcdbank}
 use Rattle.registers.specs.declared.Words.{Words}
-use Rattle.scanout.specs.Refusals.{bankDiffers, pastFrame, viewCases, stateCases, judgeScan}
-use Rattle.scanout.specs.State.{withView, frameOf, shownWords, advance}
+use Rattle.scanout.specs.Refusals.{bankDiffers, pastFrame, viewportCases, stateCases, scanTail, judgeScan}
+use Rattle.scanout.specs.State.{withViewport, frameOf, shownWords, advance, shownScreen}
 use Rattle.scanout.specs.declared.state.State.{State}
 use Rattle.scanout.proofs.Views.{Alike, alike-with, shown-first, shown-later, shown-alike, shown-frame, some-frame}
 
 module _ (s : State) (lent entries : ℕ) (short : Bool) where
-  -- the conditions beside those of the views
-  abbrev pub rest : List Case
-  rest =
-      9 when videoOff (s .words)
-      ∷ 10 when (paletteWrong entries || short)
-      ∷ 13 when bankDiffers (s .words) (s .pending)
-      ∷ 15 when pastFrame s
-      ∷ []
-
   pub record Passed : Type 0 where
-    pub current : lowest (memoryCases (s .words) (s .«window_start») lent) ≡ 0
-    pub pending : lowest (viewCases s (s .pending) lent) ≡ 0
-    pub on : videoOff (s .words) ≡ false
+    pub current : lowest (memoryCases (s .screen) lent) ≡ 0
+    pub pending : lowest (viewportCases s (s .pending) lent) ≡ 0
+    pub on : videoOff (s .screen .words) ≡ false
     pub slices : paletteWrong entries || short ≡ false
-    pub bank : bankDiffers (s .words) (s .pending) ≡ false
+    pub bank : bankDiffers (s .screen .words) (s .pending) ≡ false
     pub inside : s .position < frameOf s
 
   pub passed : judgeScan s lent entries short ≡ 0 → Passed
@@ -54,20 +46,20 @@ module _ (s : State) (lent entries : ℕ) (short : Bool) where
         inside = leb-false (frameOf s) (s .position) (none .1 .1 .1 .0);
       }
     where
-      parts : (lowest (stateCases s lent) ≡ 0) × (lowest rest ≡ 0)
-      parts = joined-pass (stateCases s lent) rest e
+      parts : (lowest (stateCases s lent) ≡ 0) × (lowest (scanTail s entries short) ≡ 0)
+      parts = joined-pass (stateCases s lent) (scanTail s entries short) e
 
-      views : (lowest (memoryCases (s .words) (s .«window_start») lent) ≡ 0) × (lowest (viewCases s (s .pending) lent) ≡ 0)
-      views = joined-pass (memoryCases (s .words) (s .«window_start») lent) (viewCases s (s .pending) lent) (parts .0)
+      views : (lowest (memoryCases (s .screen) lent) ≡ 0) × (lowest (viewportCases s (s .pending) lent) ≡ 0)
+      views = joined-pass (memoryCases (s .screen) lent) (viewportCases s (s .pending) lent) (parts .0)
 
-      none : NoneHolds rest
-      none = lowest-zero-none-holds 8 rest tt (parts .1)
+      none : NoneHolds (scanTail s entries short)
+      none = lowest-zero-none-holds 8 (scanTail s entries short) tt (parts .1)
 
   pub judged-passed : Passed → judgeScan s lent entries short ≡ 0
   unfolding judgeScan pastFrame lowest lower
   judged-passed p =
-      pass-joined (stateCases s lent) rest
-      (pass-joined (memoryCases (s .words) (s .«window_start») lent) (viewCases s (s .pending) lent) (p .current) (p .pending))
+      pass-joined (stateCases s lent) (scanTail s entries short)
+      (pass-joined (memoryCases (s .screen) lent) (viewportCases s (s .pending) lent) (p .current) (p .pending))
       (rw (p .on, p .slices, p .bank, lt-leb (frameOf s) (s .position) (p .inside)) refl)
 
 -- what a run is judged by covers what a step is judged by
@@ -90,13 +82,13 @@ alike-video w w′ a = ap videoOff a
 
 module _ (s : State) (lent entries : ℕ) (short : Bool) (p : Passed s lent entries short) where
   pub shown-on : videoOff (shownWords s) ≡ false
-  shown-on = alike-video (shownWords s) (s .words) (shown-alike s) ∙ p .on
+  shown-on = alike-video (shownWords s) (s .screen .words) (shown-alike s) ∙ p .on
 
-  pub shown-in-memory : lowest (memoryCases (shownWords s) (s .«window_start») lent) ≡ 0
+  pub shown-in-memory : lowest (memoryCases (shownScreen s) lent) ≡ 0
   shown-in-memory = go (ℕ-discrete (s .position) 0)
     where
       at : Words → ℕ
-      at w = lowest (memoryCases w (s .«window_start») lent)
+      at w = lowest (memoryCases (screen w (s .screen .«window_start»)) lent)
 
       go : Dec (s .position ≡ 0) → at (shownWords s) ≡ 0
       go (yes e) = ap at (shown-first s e) ∙ p .pending
@@ -109,11 +101,11 @@ module _ (s : State) (lent entries : ℕ) (short : Bool) (p : Passed s lent entr
   short-passes = or-false-right (paletteWrong entries) short (p .slices)
 
   -- what a drawing from the next clock's words is judged by
-  pub drawing-passes : (b : Bool) → b ≡ false → lowest (drawingCases (shownWords s) (s .«window_start») lent entries b) ≡ 0
+  pub drawing-passes : (b : Bool) → b ≡ false → lowest (drawingCases (shownScreen s) lent entries b) ≡ 0
   unfolding lowest lower
   drawing-passes b f =
-      pass-joined (memoryCases (shownWords s) (s .«window_start») lent)
-      (9 when videoOff (shownWords s) ∷ 10 when (paletteWrong entries || b) ∷ []) shown-in-memory
+      pass-joined (memoryCases (shownScreen s) lent)
+      (colourTail (shownWords s) entries b) shown-in-memory
       (rw (shown-on, palette-passes, f) refl)
 
   -- one clock on, nothing of this has changed
@@ -123,8 +115,8 @@ module _ (s : State) (lent entries : ℕ) (short : Bool) (p : Passed s lent entr
       record {
         current = shown-in-memory;
         pending =
-            ap (λ (w : Words). lowest (memoryCases w (s .«window_start») lent))
-            (alike-with (shownWords s) (s .words) (shown-alike s) (s .pending))
+            ap (λ (w : Words). lowest (memoryCases (screen w (s .screen .«window_start»)) lent))
+            (alike-with (shownWords s) (s .screen .words) (shown-alike s) (s .pending))
             ∙ p .pending;
         on = shown-on;
         slices = p .slices;
@@ -133,28 +125,27 @@ module _ (s : State) (lent entries : ℕ) (short : Bool) (p : Passed s lent entr
       }
     where
       bank-of : Words → Bool
-      bank-of w = not (eqb (lcdbank (withView w (s .pending))) (lcdbank w))
+      bank-of w = not (eqb (lcdbank (withViewport w (s .pending))) (lcdbank w))
 
       go : Dec (s .position ≡ 0) → bank-of (shownWords s) ≡ false
       go (yes e) =
           ap bank-of (shown-first s e)
-          ∙ ap not (eq-eqb (lcdbank (withView (s .words) (s .pending))) (lcdbank (withView (s .words) (s .pending))) refl)
+          ∙ ap not (eq-eqb (lcdbank (withViewport (s .screen .words) (s .pending))) (lcdbank (withViewport (s .screen .words) (s .pending))) refl)
       go (no ne) = ap bank-of (shown-later s ne) ∙ p .bank
 
 -- ---- drawing from it
 
-module _ (s : State) (memory palette : List ℕ) (short : Bool) (p : Passed s (length memory) (length palette) short) where
+module _ (s : State) (l : Lent) (short : Bool) (p : Passed s (length (l .memory)) (length (l .palette)) short) where
   -- drawing one pixel gives its colour
-  pub pixel-drawn : (r c : ℕ) → r < height (s .words) → c < width (s .words)
-      → drawPixel (shownWords s) (s .«window_start») memory palette r c
-      ≡ accepted (colour (shownWords s) (s .«window_start») memory palette r c)
+  pub pixel-drawn : (r c : ℕ) → r < height (s .screen .words) → c < width (s .screen .words)
+      → drawPixel (shownScreen s) l r c ≡ accepted (colour (shownScreen s) l r c)
   unfolding drawPixel judgePixel judged rowOutside columnOutside
   pixel-drawn r c h k =
-      ap (λ (n : ℕ). judged n (colour (shownWords s) (s .«window_start») memory palette r c))
-      (pass-joined (drawingCases (shownWords s) (s .«window_start») (length memory) (length palette) false)
+      ap (λ (n : ℕ). judged n (colour (shownScreen s) l r c))
+      (pass-joined (drawingCases (shownScreen s) (length (l .memory)) (length (l .palette)) false)
       (11 when (rowOutside (shownWords s) r || columnOutside (shownWords s) c) ∷ [])
-      (drawing-passes s (length memory) (length palette) short p false refl)
+      (drawing-passes s (length (l .memory)) (length (l .palette)) short p false refl)
       (none-of-one 11 (rowOutside (shownWords s) r || columnOutside (shownWords s) c)
       (or-false
-      (ap (λ (w : Words). leb (height w) r) (shown-alike s) ∙ lt-leb (height (s .words)) r h)
-      (ap (λ (w : Words). leb (width w) c) (shown-alike s) ∙ lt-leb (width (s .words)) c k))))
+      (ap (λ (w : Words). leb (height w) r) (shown-alike s) ∙ lt-leb (height (s .screen .words)) r h)
+      (ap (λ (w : Words). leb (width w) c) (shown-alike s) ∙ lt-leb (width (s .screen .words)) c k))))

@@ -6,13 +6,14 @@ use mathlib.Core.Path.{_≡_, refl, sym, ap, _∙_}
 use Prim.Native.Nat.{ℕ, zero, suc, _+_, _<_, _≤_}
 use native.Mathlib.Omega.{arith}
 use lib.ListN.{length}
+use Rattle.drawing.specs.Colour.{Lent}
 use Rattle.laws.specs.Answers.{Answer, accepted, refused, outcome, orElse}
 use Rattle.laws.specs.AnswerLaws.{judged-accepted, judged-refused, is-refused, else-kept}
 use Rattle.drawing.specs.Drawing.{pixels}
 use Rattle.registers.specs.Loading.{tooShort}
 use Rattle.signals.specs.Clock.{clockAt}
 use Rattle.scanout.specs.Answers.{Shown, Taken}
-use Rattle.scanout.specs.Calls.{Lent, nextColour, judgeStep, step, countOf, drawn, judgeRun, run, withPending, change}
+use Rattle.scanout.specs.Calls.{nextColour, judgeStep, step, countOf, drawn, judgeRun, run, withPending, change}
 use Rattle.scanout.specs.Lists.{Call, aStep, aRun, aChange, refusal, next, clocks, pendingAfter, pictureAfter}
 use Rattle.scanout.specs.Refusals.{judgeChange}
 use Rattle.scanout.specs.State.{frameOf, shownWords, advance, after}
@@ -47,9 +48,9 @@ module _ (s : State) (l : Lent) (n : ℕ) (picture : List ℕ) (t : Taken) (e : 
   unfolding run
   run-value = judged-accepted (judgeRun s l picture) (record { count = countOf s n; next = after (countOf s n) s }) t e
 
-  pub run-passed : Passed s (length (l .memory)) (length (l .palette)) (tooShort (length picture) (pixels (s .words)))
+  pub run-passed : Passed s (length (l .memory)) (length (l .palette)) (tooShort (length picture) (pixels (s .screen .words)))
   unfolding judgeRun
-  run-passed = passed s (length (l .memory)) (length (l .palette)) (tooShort (length picture) (pixels (s .words))) (run-value .0)
+  run-passed = passed s (length (l .memory)) (length (l .palette)) (tooShort (length picture) (pixels (s .screen .words))) (run-value .0)
 
   pub run-count : t .count ≡ countOf s n
   run-count = ap (λ (x : Taken). x .count) (sym (run-value .1))

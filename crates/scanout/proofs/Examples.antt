@@ -7,11 +7,11 @@ use lib.ListN.{replicate}
 use Rattle.laws.specs.Answers.{Answer, accepted, refused, judged, outcome, orElse, numberOf}
 use Rattle.laws.specs.Booleans.{someBelow}
 use Rattle.laws.specs.Cases.{lowest, lower}
-use Rattle.drawing.specs.Colour.{storedPixel, rowColour, colour}
-use Rattle.drawing.specs.Drawing.{videoOff, paletteWrong}
-use Rattle.memory.specs.Memory.{outsideMemory, wordOutside, rowAddress, firstWord}
+use Rattle.drawing.specs.Colour.{Lent, storedPixel, rowColour, colour}
+use Rattle.drawing.specs.Drawing.{paletteWrong}
+use Rattle.memory.specs.Memory.{screen, outsideMemory, wordOutside, rowAddress, firstWord}
 use Rattle.panel.specs.Geometry.{storedBits, outsideModes, rowOffset}
-use Rattle.panel.specs.Refusals.{notTft, noSuchMode, swapsIllegal, rowSizeWrong, endDiffers, pastBank}
+use Rattle.panel.specs.Refusals.{notTft, noSuchMode, swapsIllegal, rowSizeWrong, endDiffers, pastBank, videoOff}
 use Rattle.panel.specs.Timing.{timing, lineClocks, frameLines, frameClocks}
 use Rattle.pixels.specs.Colours.{cut24}
 use Rattle.pixels.specs.Format.{format}
@@ -19,17 +19,56 @@ use Rattle.pixels.specs.Order as Order
 use Rattle.pixels.specs.Pixel.{shown}
 use Rattle.registers.specs.Fields.{reservedBit}
 use Rattle.registers.specs.Loading.{nineWords, tooShort}
+use Rattle.registers.specs.declared.Words.{Words}
 use Rattle.signals.specs.Clock.{level, dataWord, inSync, showsPixel, clockOf, clockAt}
 use Rattle.signals.specs.Parts.{partAt, linePart, clockPart}
 use Rattle.signals.specs.Pixel.{inRow, spotOf, spotAt, pixelClock}
+use Rattle.signals.specs.declared.clock.Clock.{Clock}
 use Rattle.signals.specs.declared.pixel.Spot.the-variants.{Pixel, Blank}
 use Rattle.scanout.specs.Answers.{Shown}
-use Rattle.scanout.specs.Calls.{Lent, begun, spotColour, nextColour, judgeStep, step, countOf, store, storeNext, drawn, judgeRun, run, change}
-use Rattle.scanout.specs.Lists.{aStep, aRun, aChange, refusal, next, clocks, pendingAfter, pictureAfter, Calls, nothing, _then_, final, taken, lastView, pictureLeft, callsBefore, frameView}
+use Rattle.scanout.specs.Calls.{Run, begun, spotColour, nextColour, judgeStep, step, countOf, store, storeNext, drawn, judgeRun, run, change}
+use Rattle.scanout.specs.Lists.{aStep, aRun, aChange, refusal, next, clocks, pendingAfter, pictureAfter, Calls, nothing, _then_, final, taken, lastViewport, pictureLeft, callsBefore, frameViewport}
 use Rattle.scanout.specs.Refusals.{bankDiffers, pastFrame, judgeScan, judgeChange}
 use Rattle.scanout.specs.State.{shownWords, advance, after}
 use Rattle.scanout.specs.declared.state.State.{State}
 use Rattle.scanout.specs.declared.state.Viewport.{Viewport}
+
+-- ---- what the examples unfold, by name: a definition's line, and the lines that it names
+
+-- what a step is judged by
+unfoldable judgement : State → Lent → ℕ
+unfolding judgeStep judgeScan lowest lower reservedBit notTft noSuchMode outsideModes swapsIllegal storedBits rowSizeWrong
+judgement s l = judgeStep s l
+
+-- with the view's place and what is lent
+unfoldable accepted-view : State → Lent → ℕ
+unfolding judgement endDiffers pastBank rowOffset outsideMemory wordOutside rowAddress someBelow videoOff paletteWrong bankDiffers pastFrame
+accepted-view s l = judgement s l
+
+-- the levels of a clock
+unfoldable pins : Words → ℕ → ℕ → Clock
+unfolding lineClocks frameLines frameClocks clockOf clockAt level dataWord inSync showsPixel partAt linePart clockPart
+pins w position colour = clockAt w position colour
+
+-- the colour of a clock
+unfoldable pixel : State → Lent → ℕ
+unfolding inRow spotOf spotAt spotColour nextColour shownWords colour rowColour storedPixel format cut24 shown firstWord Order.inOrder
+pixel s l = nextColour s l
+
+-- a step
+unfoldable steps : State → Lent → Answer Shown
+unfolding accepted-view pins pixel Order.pixelBits step judged advance next orElse
+steps s l = step s l
+
+-- a run
+unfoldable runs : State → Lent → ℕ → List ℕ → Run
+unfolding steps run judgeRun tooShort outcome countOf drawn store storeNext after
+runs s l n picture = run s l n picture
+
+-- a list of calls
+unfoldable lists : State → Calls → State
+unfolding runs final taken clocks lastViewport pendingAfter pictureLeft pictureAfter callsBefore frameViewport refusal numberOf change judgeChange
+lists s calls = final s calls
 
 -- ---- T1: one column, two rows, at 24 bits; every part of a line and of a frame but the two rows is 1 long
 
@@ -38,7 +77,7 @@ abbrev t1 : ℕ → List ℕ
 t1 lcdcon5 = 0x7B ∷ 0x4000 ∷ 0 ∷ 0 ∷ lcdcon5 ∷ 0x18000000 ∷ 4 ∷ 2 ∷ 0 ∷ []
 
 abbrev began : ℕ → State
-began lcdcon5 = begun (nineWords (t1 lcdcon5)) 0x30000000
+began lcdcon5 = begun (screen (nineWords (t1 lcdcon5)) 0x30000000)
 
 abbrev lent : Lent
 lent = record { memory = 0x00112233 ∷ 0x00AABBCC ∷ []; palette = replicate 256 0 }
@@ -81,7 +120,7 @@ pub record T1Scan : Type 0 where
       ≡ record { answer = accepted (record { count = 9; next = began 0 }); left = 7 ∷ 0xAABBCC ∷ 9 ∷ [] }
 
 pub t1-scan : T1Scan
-unfolding step judged judgeStep judgeScan lowest lower reservedBit notTft noSuchMode outsideModes swapsIllegal storedBits rowSizeWrong endDiffers pastBank rowOffset outsideMemory wordOutside rowAddress someBelow videoOff paletteWrong bankDiffers pastFrame lineClocks frameLines frameClocks clockOf clockAt level dataWord inSync showsPixel partAt linePart clockPart inRow spotOf spotAt spotColour nextColour shownWords advance next orElse colour rowColour storedPixel format cut24 shown firstWord Order.inOrder Order.pixelBits run judgeRun tooShort outcome countOf drawn store storeNext after
+unfolding runs
 t1-scan = record { frame = refl; inverted = refl; whole = refl; front = refl; back = refl }
 
 -- ---- the same panel with a third word of memory, and a viewport one row further on that comes in mid-frame
@@ -103,8 +142,8 @@ moving =
     then aChange (three .memory) (record { lcdsaddr1 = 0x18200002; lcdsaddr2 = 6 })
 
 pub record T1Moved : Type 0 where
-  pub first-view : frameView (began 0) moving 0 ≡ record { lcdsaddr1 = 0x18000000; lcdsaddr2 = 4 }
-  pub second-view : frameView (began 0) moving 1 ≡ further
+  pub first-view : frameViewport (began 0) moving 0 ≡ record { lcdsaddr1 = 0x18000000; lcdsaddr2 = 4 }
+  pub second-view : frameViewport (began 0) moving 1 ≡ further
   -- 5 clocks, the 15 that are left, and 11 of the next frame, the tenth of which, from 0, is the first pixel's
   pub clocks-taken : taken (began 0) moving ≡ 31
   pub left : pictureLeft (began 0) (7 ∷ 8 ∷ []) moving ≡ 0xAABBCC ∷ 0xAABBCC ∷ []
@@ -112,7 +151,7 @@ pub record T1Moved : Type 0 where
   pub refused : refusal (final (began 0) moving) (aChange (three .memory) (record { lcdsaddr1 = 0x18200002; lcdsaddr2 = 6 })) ≡ 8
 
 pub t1-moved : T1Moved
-unfolding step judged judgeStep judgeScan lowest lower reservedBit notTft noSuchMode outsideModes swapsIllegal storedBits rowSizeWrong endDiffers pastBank rowOffset outsideMemory wordOutside rowAddress someBelow videoOff paletteWrong bankDiffers pastFrame lineClocks frameLines frameClocks clockOf clockAt level dataWord inSync showsPixel partAt linePart clockPart inRow spotOf spotAt spotColour nextColour shownWords advance next orElse colour rowColour storedPixel format cut24 shown firstWord Order.inOrder Order.pixelBits run judgeRun tooShort outcome countOf drawn store storeNext after final taken clocks lastView pendingAfter pictureLeft pictureAfter callsBefore frameView refusal numberOf change judgeChange
+unfolding runs final taken clocks lastViewport pendingAfter pictureLeft pictureAfter callsBefore frameViewport refusal numberOf change judgeChange
 t1-moved =
     record {
       first-view = refl;

@@ -8,16 +8,18 @@ use Prim.Native.Nat.{ℕ, zero, suc, _+_, _<_, _≤_}
 use native.Mathlib.Decide.{decLt}
 use native.Mathlib.Omega.{arith}
 use lib.ListN.{length}
+use Rattle.drawing.specs.Colour.{Lent}
 use Rattle.laws.specs.Answers.{Answer, accepted, refused, judged, andThen, orElse, numberOf}
 use Rattle.laws.specs.AnswerLaws.{judged-accepted}
 use Rattle.drawing.specs.Drawing.{pixels}
+use Rattle.memory.specs.Memory.{screen}
 use Rattle.registers.specs.Loading.{load, tooShort}
 use Rattle.registers.specs.declared.Words.{Words}
 use Rattle.signals.specs.Clock.{clockAt}
 use Rattle.scanout.specs.Answers.{Shown, Taken}
-use Rattle.scanout.specs.Calls.{Lent, begun, start, nextColour, judgeStep, step, run}
+use Rattle.scanout.specs.Calls.{begun, start, nextColour, judgeStep, step, run}
 use Rattle.scanout.specs.FrameByFrame.{pixelTime, frameColour, Takes, TakenBy, by-step, by-run, Demand3, Demand3FromStart, singleSteps, RunIsSteps}
-use Rattle.scanout.specs.Lists.{Call, aStep, aRun, aChange, refusal, next, clocks, Calls, nothing, _then_, Begins, final, taken, lastView, pictureLeft}
+use Rattle.scanout.specs.Lists.{Call, aStep, aRun, aChange, refusal, next, clocks, Calls, nothing, _then_, Begins, final, taken, lastViewport, pictureLeft}
 use Rattle.scanout.specs.Refusals.{judgeStart}
 use Rattle.scanout.specs.State.{shownWords, advance, after}
 use Rattle.scanout.specs.declared.state.State.{State}
@@ -113,14 +115,14 @@ module _ (s : State) where
   refused-leaves : (before : Calls) (c : Call) → (refusal (final s before) c ≡ 0 → ⊥)
       → (final s (before then c) ≡ final s before)
       × (taken s (before then c) ≡ taken s before)
-      × (lastView s (before then c) ≡ lastView s before)
+      × (lastViewport s (before then c) ≡ lastViewport s before)
       × ((p : List ℕ) → pictureLeft s p (before then c) ≡ pictureLeft s p before)
-  unfolding final taken lastView pictureLeft
+  unfolding final taken lastViewport pictureLeft
   refused-leaves before c ne =
       let u = unchanged (final s before) c ne in (
         u .state,
         omega (arith, u .none),
-        u .view (lastView s before),
+        u .view (lastViewport s before),
         λ p. u .picture (pictureLeft s p before),
       )
 
@@ -166,20 +168,20 @@ demand-3 s start calls =
     whole cs = schedule s start cs
 
 -- a start gives a state at position 0
-pub started-at-0 : (words : List ℕ) (window : ℕ) (memory : List ℕ) (s : State) → start words window memory ≡ accepted s
+pub started-at-0 : (words : List ℕ) (window-start : ℕ) (memory : List ℕ) (s : State) → start words window-start memory ≡ accepted s
     → s .position ≡ 0
 unfolding start andThen
-started-at-0 words window memory s e = go (load words) e
+started-at-0 words window-start memory s e = go (load words) e
   where
-    go : (a : Answer Words) → andThen a (λ w. judged (judgeStart w window (length memory)) (begun w window)) ≡ accepted s
+    go : (a : Answer Words) → andThen a (λ w. judged (judgeStart (screen w window-start) (length memory)) (begun (screen w window-start))) ≡ accepted s
         → s .position ≡ 0
     go (accepted w) e′ =
         ap (λ (t : State). t .position)
-        (sym (judged-accepted (judgeStart w window (length memory)) (begun w window) s e′ .1))
+        (sym (judged-accepted (judgeStart (screen w window-start) (length memory)) (begun (screen w window-start)) s e′ .1))
     go (refused n) e′ = let z : _≡_ {A = ℕ} 0 1 = cc in absurd (omega arith)
 
 pub demand-3-from-start : Demand3FromStart
-demand-3-from-start words window memory s e calls = demand-3 s (started-at-0 words window memory s e) calls
+demand-3-from-start words window-start memory s e calls = demand-3 s (started-at-0 words window-start memory s e) calls
 
 -- ---- a run is as many steps
 
@@ -220,4 +222,4 @@ run-is-steps s l n picture t e = (
 )
   where
     steps : (k : ℕ) → Stepping s l k
-    steps k = stepping s l (as-step s (length (l .memory)) (length (l .palette)) (tooShort (length picture) (pixels (s .words))) (run-passed s l n picture t e)) k
+    steps k = stepping s l (as-step s (length (l .memory)) (length (l .palette)) (tooShort (length picture) (pixels (s .screen .words))) (run-passed s l n picture t e)) k

@@ -6,8 +6,8 @@ use mathlib.Core.Path.{_≡_, refl, ap}
 use Prim.Native.Nat.{ℕ, _+_, _*_, _<_, _≤_}
 use native.Mathlib.Omega.{arith}
 use borrow.Author.Tests.{lt-ltb, le-ltb}
-use Rattle.scanout.specs.Lists.{Call, Calls, nothing, _then_, Begins, final, clocks, taken, lastView, callsBefore, frameView}
-use Rattle.scanout.specs.State.{frameOf}
+use Rattle.scanout.specs.Lists.{Call, Calls, nothing, _then_, Begins, final, clocks, taken, lastViewport, callsBefore, frameViewport, frameWords}
+use Rattle.scanout.specs.State.{withViewport, frameOf}
 use Rattle.scanout.specs.declared.state.State.{State}
 
 -- ---- fronts
@@ -75,14 +75,25 @@ module _ (s : State) where
   before-last cs c n h k = rw (le-ltb n (taken s cs) h, lt-ltb n (taken s (cs then c)) k) refl
 
   -- a frame that has begun keeps its view
-  pub frame-view-in-front : (part cs : Calls) (f : ℕ) → Begins part cs → f * frameOf s < taken s part
-      → frameView s cs f ≡ frameView s part f
-  unfolding frameView
-  frame-view-in-front part cs f b h = ap (lastView s) (before-in-front part cs (f * frameOf s) b h)
+  frame-viewport-in-front : (part cs : Calls) (f : ℕ) → Begins part cs → f * frameOf s < taken s part
+      → frameViewport s cs f ≡ frameViewport s part f
+  unfolding frameViewport
+  frame-viewport-in-front part cs f b h = ap (lastViewport s) (before-in-front part cs (f * frameOf s) b h)
 
   -- one that begins with a call has the view that waited before it
-  pub frame-view-begins : (cs : Calls) (c : Call) (f : ℕ) → f * frameOf s ≡ taken s cs → 0 < clocks (final s cs) c
-      → frameView s (cs then c) f ≡ lastView s cs
-  unfolding frameView
-  frame-view-begins cs c f e h =
-      ap (lastView s) (before-last cs c (f * frameOf s) (omega (arith, e)) (omega (arith, e, taken-more cs c)))
+  frame-viewport-begins : (cs : Calls) (c : Call) (f : ℕ) → f * frameOf s ≡ taken s cs → 0 < clocks (final s cs) c
+      → frameViewport s (cs then c) f ≡ lastViewport s cs
+  unfolding frameViewport
+  frame-viewport-begins cs c f e h =
+      ap (lastViewport s) (before-last cs c (f * frameOf s) (omega (arith, e)) (omega (arith, e, taken-more cs c)))
+
+  -- so it is scanned with the same words
+  pub frame-words-in-front : (part cs : Calls) (f : ℕ) → Begins part cs → f * frameOf s < taken s part
+      → frameWords s cs f ≡ frameWords s part f
+  unfolding frameWords
+  frame-words-in-front part cs f b h = ap (withViewport (s .screen .words)) (frame-viewport-in-front part cs f b h)
+
+  pub frame-words-begin : (cs : Calls) (c : Call) (f : ℕ) → f * frameOf s ≡ taken s cs → 0 < clocks (final s cs) c
+      → frameWords s (cs then c) f ≡ withViewport (s .screen .words) (lastViewport s cs)
+  unfolding frameWords
+  frame-words-begin cs c f e h = ap (withViewport (s .screen .words)) (frame-viewport-begins cs c f e h)

@@ -6,16 +6,17 @@ use mathlib.Core.Path.{_≡_, refl, sym, ap, _∙_}
 use Prim.Native.Nat.{ℕ, _<_, _≤_}
 use native.Mathlib.Omega.{arith}
 use lib.ListN.{length, getD}
+use Rattle.drawing.specs.Colour.{Lent}
 use Rattle.laws.specs.Answers.{Answer, accepted, refused, orElse}
 use Rattle.drawing.specs.Drawing.{drawPixel}
+use Rattle.memory.specs.Memory.{screen}
 use Rattle.scanout.specs.Answers.{Taken}
-use Rattle.scanout.specs.Calls.{Lent, run}
+use Rattle.scanout.specs.Calls.{run}
 use Rattle.scanout.specs.FrameByFrame.{PixelAt, entryOf, pixelColour, RunIn, leftBy, RunTakes, OnePicture}
 use Rattle.scanout.specs.Lists.{Call, aStep, aRun, aChange, Calls, nothing, _then_, Begins, final, taken, pictureAfter, pictureLeft}
-use Rattle.scanout.specs.State.{withView}
 use Rattle.scanout.specs.declared.state.State.{State}
-use Rattle.scanout.specs.declared.state.Viewport.{Viewport}
-use Rattle.scanout.proofs.Fronts.{begins-self, begins-longer, not-nothing, taken-front, taken-more, frame-view-in-front}
+use Rattle.registers.specs.declared.Words.{Words}
+use Rattle.scanout.proofs.Fronts.{begins-self, begins-longer, not-nothing, taken-front, taken-more, frame-words-in-front}
 use Rattle.scanout.proofs.Runs.{run-shows, run-keeps, run-length, run-clocks}
 use Rattle.scanout.proofs.Schedule.{schedule}
 
@@ -120,8 +121,8 @@ module _ (s : State) where
     front-colour : (cs : Calls) (c : Call) (l : Lent) (n : ℕ) (x : PixelAt s n) → n < taken s cs
         → pixelColour s cs l n x ≡ pixelColour s (cs then c) l n x
     front-colour cs c l n x h =
-        ap (λ (v : Viewport). drawPixel (withView (s .words) v) (s .«window_start») (l .memory) (l .palette) (x .row) (x .column))
-        (sym (frame-view-in-front s cs (cs then c) (x .frame) (begins-longer cs cs c (begins-self cs)) (omega (arith, x .time))))
+        ap (λ (w : Words). drawPixel (screen w (s .screen .«window_start»)) l (x .row) (x .column))
+        (sym (frame-words-in-front s cs (cs then c) (x .frame) (begins-longer cs cs c (begins-self cs)) (omega (arith, x .time))))
 
     pub last-colour : (p : List ℕ) (calls : Calls) → OnePicture s p calls → (q : RunIn s calls) (n : ℕ) (x : PixelAt s n)
         → RunTakes s calls q n

@@ -16,34 +16,34 @@ use Rattle.scanout.specs.declared.state.State.{State}
 
 module _ (s : State) where
   t : Timing
-  t = timing (s .words)
+  t = timing (s .screen .words)
 
-  inside : (r c : ℕ) → OnPanel (s .words) r c → pixelClock (timing (s .words)) r c < frameOf s
-  inside r c o = pixel-clock-in-frame (timing (s .words)) r c (o .row) (o .column)
+  inside : (r c : ℕ) → OnPanel (s .screen .words) r c → pixelClock (timing (s .screen .words)) r c < frameOf s
+  inside r c o = pixel-clock-in-frame (timing (s .screen .words)) r c (o .row) (o .column)
 
-  pub pixel-in-frame : (f r c : ℕ) → OnPanel (s .words) r c → InFrame s f (pixelTime s f r c)
+  pub pixel-in-frame : (f r c : ℕ) → OnPanel (s .screen .words) r c → InFrame s f (pixelTime s f r c)
   pixel-in-frame f r c o =
       record { from = omega arith; before = omega (arith, add-mul f 1 (frameOf s), inside r c o) }
 
-  pub reading-order : (f r c r′ c′ : ℕ) → OnPanel (s .words) r c → OnPanel (s .words) r′ c′
-      → r * width (s .words) + c < r′ * width (s .words) + c′ → pixelTime s f r c < pixelTime s f r′ c′
+  pub reading-order : (f r c r′ c′ : ℕ) → OnPanel (s .screen .words) r c → OnPanel (s .screen .words) r′ c′
+      → r * width (s .screen .words) + c < r′ * width (s .screen .words) + c′ → pixelTime s f r c < pixelTime s f r′ c′
   reading-order f r c r′ c′ o o′ l =
-      omega (arith, in-clock-order (timing (s .words)) r c r′ c′ (o .row) (o .column) (o′ .row) (o′ .column) l)
+      omega (arith, in-clock-order (timing (s .screen .words)) r c r′ c′ (o .row) (o .column) (o′ .row) (o′ .column) l)
 
   module _ (n : ℕ) where
     pub its-frame : (x : PixelAt s n) → n / frameOf s ≡ x .frame
     its-frame x = ap (λ (k : ℕ). k / frameOf s) (x .time) ∙ digits-div (x .frame) (inside (x .row) (x .column) (x .on-panel))
 
-    its-position : (x : PixelAt s n) → n % frameOf s ≡ pixelClock (timing (s .words)) (x .row) (x .column)
+    its-position : (x : PixelAt s n) → n % frameOf s ≡ pixelClock (timing (s .screen .words)) (x .row) (x .column)
     its-position x = ap (λ (k : ℕ). k % frameOf s) (x .time) ∙ digits-mod (x .frame) (inside (x .row) (x .column) (x .on-panel))
 
     -- the position of a pixel's clock shows it
-    pub pixel-position : (x : PixelAt s n) → At (timing (s .words)) (n % frameOf s) (x .row) (x .column)
+    pub pixel-position : (x : PixelAt s n) → At (timing (s .screen .words)) (n % frameOf s) (x .row) (x .column)
     pixel-position x =
-        rw (its-position x) (at-pixel-clock (timing (s .words)) (x .row) (x .column) (x .on-panel .row) (x .on-panel .column))
+        rw (its-position x) (at-pixel-clock (timing (s .screen .words)) (x .row) (x .column) (x .on-panel .row) (x .on-panel .column))
 
     -- and a position that shows a pixel is that of its clock
-    unfoldable pub position-pixel : (r c : ℕ) → At (timing (s .words)) (n % frameOf s) r c → PixelAt s n
+    unfoldable pub position-pixel : (r c : ℕ) → At (timing (s .screen .words)) (n % frameOf s) r c → PixelAt s n
     position-pixel r c a =
         record {
           frame = n / frameOf s;
@@ -52,7 +52,7 @@ module _ (s : State) where
           on-panel = record { row = a .row; column = a .column };
           time =
               sym (div-add-mod' n (frameOf s))
-              ∙ ap (λ (k : ℕ). n / frameOf s * frameOf s + k) (at-is-pixel-clock (timing (s .words)) (n % frameOf s) r c a);
+              ∙ ap (λ (k : ℕ). n / frameOf s * frameOf s + k) (at-is-pixel-clock (timing (s .screen .words)) (n % frameOf s) r c a);
         }
 
     pub one-pixel : (x y : PixelAt s n) → (x .frame ≡ y .frame) × (x .row ≡ y .row) × (x .column ≡ y .column)

@@ -61,15 +61,15 @@ module _ (s : State) (calls : Calls) (q : RunIn s calls) (i : Schedule s (q .bef
 
   -- ---- the stretch
 
-  same-timing : timing (here .words) ≡ timing (s .words)
+  same-timing : timing (here .screen .words) ≡ timing (s .screen .words)
   same-timing = ap timing (i .alike)
 
-  first-is : first here (q .lent) ≡ pixelsBefore (timing (s .words)) (from % frameOf s)
+  first-is : first here (q .lent) ≡ pixelsBefore (timing (s .screen .words)) (from % frameOf s)
   first-is = ap₂ pixelsBefore same-timing (i .position)
 
   many-is : many here (q .lent) (countOf here (q .number))
-      ≡ pixelsBefore (timing (s .words)) (from % frameOf s + q .answer .count)
-      - pixelsBefore (timing (s .words)) (from % frameOf s)
+      ≡ pixelsBefore (timing (s .screen .words)) (from % frameOf s + q .answer .count)
+      - pixelsBefore (timing (s .screen .words)) (from % frameOf s)
   many-is =
       ap₂ (λ (a b : ℕ). a - b)
       (ap₂ pixelsBefore same-timing (ap₂ _+_ (i .position) (sym count-is))) first-is
@@ -86,17 +86,17 @@ module _ (s : State) (calls : Calls) (q : RunIn s calls) (i : Schedule s (q .bef
   run-length = ap length left-is ∙ length-stores _ _ _ (q .picture)
 
   -- the picture has room for it
-  room : pixelsBefore (timing (s .words)) (from % frameOf s + q .answer .count) ≤ length (q .picture)
+  room : pixelsBefore (timing (s .screen .words)) (from % frameOf s + q .answer .count) ≤ length (q .picture)
   unfolding tooShort
   room =
       omega (
         arith,
-        at-most-all (timing (s .words)) (from % frameOf s + q .answer .count),
-        mul-comm (width (s .words)) (height (s .words)),
+        at-most-all (timing (s .screen .words)) (from % frameOf s + q .answer .count),
+        mul-comm (width (s .screen .words)) (height (s .screen .words)),
         ap pixels (i .alike),
-        ltb-false (length (q .picture)) (pixels (here .words))
+        ltb-false (length (q .picture)) (pixels (here .screen .words))
             (short-passes here (length (q .lent .memory)) (length (q .lent .palette))
-            (tooShort (length (q .picture)) (pixels (here .words)))
+            (tooShort (length (q .picture)) (pixels (here .screen .words)))
             (run-passed here (q .lent) (q .number) (q .picture) (q .answer) (q .done))),
       )
 
@@ -114,25 +114,25 @@ module _ (s : State) (calls : Calls) (q : RunIn s calls) (i : Schedule s (q .bef
       (ap (λ (k : ℕ). k / frameOf s) (sym e) ∙ h .0, ap (λ (k : ℕ). k % frameOf s) (sym e) ∙ h .1)
 
   module _ (n : ℕ) (x : PixelAt s n) (u : RunTakes s calls q n) where
-    at : At (timing (s .words)) (n % frameOf s) (x .row) (x .column)
+    at : At (timing (s .screen .words)) (n % frameOf s) (x .row) (x .column)
     at = pixel-position s n x
 
-    not-before : first here (q .lent) ≤ x .row * width (s .words) + x .column
+    not-before : first here (q .lent) ≤ x .row * width (s .screen .words) + x .column
     not-before =
         omega (
           arith,
           first-is,
-          before-pixel (timing (s .words)) (n % frameOf s) (x .row) (x .column) at,
-          further (timing (s .words)) (from % frameOf s) (n % frameOf s) (omega (arith, clock-inside n u .1)),
+          before-pixel (timing (s .screen .words)) (n % frameOf s) (x .row) (x .column) at,
+          further (timing (s .screen .words)) (from % frameOf s) (n % frameOf s) (omega (arith, clock-inside n u .1)),
         )
 
-    not-past : x .row * width (s .words) + x .column
-        < pixelsBefore (timing (s .words)) (from % frameOf s + q .answer .count)
+    not-past : x .row * width (s .screen .words) + x .column
+        < pixelsBefore (timing (s .screen .words)) (from % frameOf s + q .answer .count)
     not-past =
         omega (
           arith,
-          after-pixel (timing (s .words)) (n % frameOf s) (x .row) (x .column) at,
-          further (timing (s .words)) (n % frameOf s + 1) (from % frameOf s + q .answer .count)
+          after-pixel (timing (s .screen .words)) (n % frameOf s) (x .row) (x .column) at,
+          further (timing (s .screen .words)) (n % frameOf s + 1) (from % frameOf s + q .answer .count)
               (omega (arith, clock-inside n u .1, u .from, u .before)),
         )
 
@@ -147,7 +147,7 @@ module _ (s : State) (calls : Calls) (q : RunIn s calls) (i : Schedule s (q .bef
         ∙ sym (same-colour here (q .lent) (first here (q .lent) + offset) (x .row) (x .column)
         (sym place ∙ ap (λ (wide : ℕ). x .row * wide + x .column) (sym same-width)) (rw same-width (x .on-panel .column))))
         ∙ sym (frame-colour s calls (q .before) (aRun (q .lent) (q .number) (q .picture)) (q .inside) i (q .lent)
-        (tooShort (length (q .picture)) (pixels (here .words)))
+        (tooShort (length (q .picture)) (pixels (here .screen .words)))
         (run-passed here (q .lent) (q .number) (q .picture) (q .answer) (q .done))
         (omega (arith, run-clocks, u .from, u .before)) (x .row) (x .column) (x .on-panel .row) (x .on-panel .column))
         ∙ ap (λ (f : ℕ). frameColour s calls f (q .lent) (x .row) (x .column)) (sym (clock-inside n u .0) ∙ its-frame s n x)
@@ -158,12 +158,12 @@ module _ (s : State) (calls : Calls) (q : RunIn s calls) (i : Schedule s (q .bef
             (many here (q .lent) (countOf here (q .number))) (q .picture)
 
         offset : ℕ
-        offset = x .row * width (s .words) + x .column - first here (q .lent)
+        offset = x .row * width (s .screen .words) + x .column - first here (q .lent)
 
-        place : x .row * width (s .words) + x .column ≡ first here (q .lent) + offset
+        place : x .row * width (s .screen .words) + x .column ≡ first here (q .lent) + offset
         place = omega (arith, not-before)
 
-        same-width : width (here .words) ≡ width (s .words)
+        same-width : width (here .screen .words) ≡ width (s .screen .words)
         same-width = ap width (i .alike)
 
   pub run-keeps : (j : ℕ) → ((n : ℕ) (x : PixelAt s n) → RunTakes s calls q n → entryOf s n x ≡ j → ⊥)
@@ -174,10 +174,10 @@ module _ (s : State) (calls : Calls) (q : RunIn s calls) (i : Schedule s (q .bef
       ∙ entry-outside (colours here (q .lent)) (first here (q .lent))
       (many here (q .lent) (countOf here (q .number))) (q .picture) j
       (λ k h e. outside
-      (between (timing (s .words)) (from % frameOf s) (q .answer .count) j (omega (arith, first-is))
+      (between (timing (s .screen .words)) (from % frameOf s) (q .answer .count) j (omega (arith, first-is))
       (omega (arith, first-is, many-is))))
     where
-      outside : Between (timing (s .words)) (from % frameOf s) (q .answer .count) j → ⊥
+      outside : Between (timing (s .screen .words)) (from % frameOf s) (q .answer .count) j → ⊥
       outside b = none n x u (b .entry)
         where
           n : ℕ

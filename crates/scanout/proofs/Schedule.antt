@@ -10,21 +10,21 @@ use Rattle.panel.specs.Timing.{timing, frameClocks}
 use Rattle.registers.specs.declared.Words.{Words}
 use Rattle.scanout.specs.Calls.{withPending}
 use Rattle.scanout.specs.Core.{moved}
-use Rattle.scanout.specs.Lists.{Call, Calls, nothing, _then_, final, taken, next, clocks, pendingAfter, lastView, frameView}
-use Rattle.scanout.specs.State.{withView, frameOf, shownWords, after}
+use Rattle.scanout.specs.Lists.{Call, Calls, nothing, _then_, final, taken, next, clocks, pendingAfter, lastViewport, frameWords}
+use Rattle.scanout.specs.State.{withViewport, frameOf, shownWords, after}
 use Rattle.scanout.specs.declared.state.State.{State}
 use Rattle.scanout.specs.declared.state.Viewport.{Viewport}
 use Rattle.scanout.proofs.Effects.{Effect, takes, brings, effect}
-use Rattle.scanout.proofs.Fronts.{begins-self, begins-longer, frame-view-in-front, frame-view-begins}
-use Rattle.scanout.proofs.Views.{Alike, alike-self, alike-with, alike-same, alike-trans, shown-first, shown-later, some-frame, after-moved, window-after, pending-after, alike-after}
+use Rattle.scanout.proofs.Fronts.{begins-self, begins-longer, frame-words-in-front, frame-words-begin}
+use Rattle.scanout.proofs.Views.{Alike, alike-self, alike-with, alike-same, alike-trans, shown-first, shown-later, some-frame, after-moved, window-start-after, pending-after, alike-after}
 
 pub record Schedule (s : State) (cs : Calls) : Type 0 where
   pub position : final s cs .position ≡ taken s cs % frameOf s
-  pub window : final s cs .«window_start» ≡ s .«window_start»
-  pub pending : final s cs .pending ≡ lastView s cs
-  pub alike : Alike (final s cs .words) (s .words)
+  pub window-start : final s cs .screen .«window_start» ≡ s .screen .«window_start»
+  pub pending : final s cs .pending ≡ lastViewport s cs
+  pub alike : Alike (final s cs .screen .words) (s .screen .words)
   pub mid-frame : (taken s cs % frameOf s ≡ 0 → ⊥)
-      → final s cs .words ≡ withView (s .words) (frameView s cs (taken s cs / frameOf s))
+      → final s cs .screen .words ≡ frameWords s cs (taken s cs / frameOf s)
 
 -- the frame's length never changes
 pub same-frame : (s : State) (cs : Calls) → Schedule s cs → frameOf (final s cs) ≡ frameOf s
@@ -43,9 +43,9 @@ ends-frame from n size pos h =
     ap (λ (x : ℕ). x % size) e ∙ digits-mod (from / size + 1) pos
 
 -- the view that a call's clocks are shown with is their frame's
-pub shows-frame-view : (s : State) (cs : Calls) (c : Call) → Schedule s cs → 0 < clocks (final s cs) c
-    → shownWords (final s cs) ≡ withView (s .words) (frameView s (cs then c) (taken s cs / frameOf s))
-shows-frame-view s cs c i some = go (ℕ-discrete (taken s cs % frameOf s) 0)
+pub shows-frame-words : (s : State) (cs : Calls) (c : Call) → Schedule s cs → 0 < clocks (final s cs) c
+    → shownWords (final s cs) ≡ frameWords s (cs then c) (taken s cs / frameOf s)
+shows-frame-words s cs c i some = go (ℕ-discrete (taken s cs % frameOf s) 0)
   where
     f : ℕ
     f = taken s cs / frameOf s
@@ -53,22 +53,22 @@ shows-frame-view s cs c i some = go (ℕ-discrete (taken s cs % frameOf s) 0)
     whole : f * frameOf s + taken s cs % frameOf s ≡ taken s cs
     whole = div-add-mod' (taken s cs) (frameOf s)
 
-    go : Dec (taken s cs % frameOf s ≡ 0) → shownWords (final s cs) ≡ withView (s .words) (frameView s (cs then c) f)
+    go : Dec (taken s cs % frameOf s ≡ 0) → shownWords (final s cs) ≡ frameWords s (cs then c) f
     go (yes z) =
         shown-first (final s cs) (i .position ∙ z)
-        ∙ alike-with (final s cs .words) (s .words) (i .alike) (final s cs .pending)
-        ∙ ap (withView (s .words)) (i .pending ∙ sym (frame-view-begins s cs c f (omega (arith, whole, z)) some))
+        ∙ alike-with (final s cs .screen .words) (s .screen .words) (i .alike) (final s cs .pending)
+        ∙ ap (withViewport (s .screen .words)) (i .pending)
+        ∙ sym (frame-words-begin s cs c f (omega (arith, whole, z)) some)
     go (no ne) =
         shown-later (final s cs) (λ z. ne (sym (i .position) ∙ z))
         ∙ i .mid-frame ne
-        ∙ ap (withView (s .words))
-        (sym (frame-view-in-front s cs (cs then c) f (begins-longer cs cs c (begins-self cs)) (omega (arith, whole, ne))))
+        ∙ sym (frame-words-in-front s cs (cs then c) f (begins-longer cs cs c (begins-self cs)) (omega (arith, whole, ne)))
 
 module _ (s : State) (cs : Calls) (c : Call) (i : Schedule s cs) where
   -- a call that takes clocks
   takes-some : (m : ℕ) → clocks (final s cs) c ≡ m → 0 < m → final s cs .position + m ≤ frameOf (final s cs)
       → next (final s cs) c ≡ after m (final s cs) → ((v : Viewport) → pendingAfter (final s cs) v c ≡ v) → Schedule s (cs then c)
-  unfolding final taken lastView
+  unfolding final taken lastViewport
   takes-some m counts some room moves stays =
       record {
         position =
@@ -76,19 +76,19 @@ module _ (s : State) (cs : Calls) (c : Call) (i : Schedule s cs) where
             ∙ ap₂ (λ (p size : ℕ). (p + m) % size) (i .position) (same-frame s cs i)
             ∙ mod-add-mod (taken s cs) (frameOf s) m
             ∙ ap (λ (k : ℕ). (taken s cs + k) % frameOf s) (sym counts);
-        window = ap (λ (t : State). t .«window_start») moves ∙ window-after (final s cs) m ∙ i .window;
+        window-start = ap (λ (t : State). t .screen .«window_start») moves ∙ window-start-after (final s cs) m ∙ i .window-start;
         pending =
             ap (λ (t : State). t .pending) moves
             ∙ pending-after (final s cs) m
             ∙ i .pending
-            ∙ sym (stays (lastView s cs));
+            ∙ sym (stays (lastViewport s cs));
         alike =
-            alike-same (next (final s cs) c .words) (after m (final s cs) .words) (s .words) (ap (λ (t : State). t .words) moves)
-            (alike-trans (after m (final s cs) .words) (final s cs .words) (s .words) (alike-after (final s cs) m) (i .alike));
+            alike-same (next (final s cs) c .screen .words) (after m (final s cs) .screen .words) (s .screen .words) (ap (λ (t : State). t .screen .words) moves)
+            (alike-trans (after m (final s cs) .screen .words) (final s cs .screen .words) (s .screen .words) (alike-after (final s cs) m) (i .alike));
         mid-frame = λ ne.
-            ap (λ (t : State). t .words) (moves ∙ is-moved)
-            ∙ shows-frame-view s cs c i (omega (arith, counts))
-            ∙ ap (λ (k : ℕ). withView (s .words) (frameView s (cs then c) k)) (sym (same-number ne));
+            ap (λ (t : State). t .screen .words) (moves ∙ is-moved)
+            ∙ shows-frame-words s cs c i (omega (arith, counts))
+            ∙ ap (λ (k : ℕ). frameWords s (cs then c) k) (sym (same-number ne));
       }
     where
       is-moved : after m (final s cs) ≡ moved m (final s cs)
@@ -107,31 +107,30 @@ module _ (s : State) (cs : Calls) (c : Call) (i : Schedule s cs) where
           go (no h) = absurd (ne (ends-frame (taken s cs) (clocks (final s cs) c) (frameOf s) (some-frame s) (omega (arith, fits, counts))))
 
   -- a call that takes none, and may bring a view
-  stands : next (final s cs) c ≡ withPending (final s cs) (pendingAfter (final s cs) (lastView s cs) c) → clocks (final s cs) c ≡ 0
+  stands : next (final s cs) c ≡ withPending (final s cs) (pendingAfter (final s cs) (lastViewport s cs) c) → clocks (final s cs) c ≡ 0
       → Schedule s (cs then c)
-  unfolding final taken lastView
+  unfolding final taken lastViewport
   stands moves counts =
       record {
         position = ap (λ (t : State). t .position) moves ∙ i .position ∙ ap (λ (k : ℕ). k % frameOf s) same-count;
-        window = ap (λ (t : State). t .«window_start») moves ∙ i .window;
+        window-start = ap (λ (t : State). t .screen .«window_start») moves ∙ i .window-start;
         pending = ap (λ (t : State). t .pending) moves;
         alike =
-            alike-same (next (final s cs) c .words) (final s cs .words) (s .words) (ap (λ (t : State). t .words) moves) (i .alike);
+            alike-same (next (final s cs) c .screen .words) (final s cs .screen .words) (s .screen .words) (ap (λ (t : State). t .screen .words) moves) (i .alike);
         mid-frame = λ ne.
-            ap (λ (t : State). t .words) moves
+            ap (λ (t : State). t .screen .words) moves
             ∙ i .mid-frame (λ z. ne (sym (ap (λ (k : ℕ). k % frameOf s) same-count) ∙ z))
-            ∙ ap (withView (s .words)) (sym (same-view ne));
+            ∙ sym (same-words ne);
       }
     where
       same-count : taken s cs ≡ taken s cs + clocks (final s cs) c
       same-count = omega (arith, counts)
 
-      same-view : ((taken s cs + clocks (final s cs) c) % frameOf s ≡ 0 → ⊥)
-          → frameView s (cs then c) ((taken s cs + clocks (final s cs) c) / frameOf s)
-          ≡ frameView s cs (taken s cs / frameOf s)
-      same-view ne =
-          ap (λ (k : ℕ). frameView s (cs then c) (k / frameOf s)) (sym same-count)
-          ∙ frame-view-in-front s cs (cs then c) (taken s cs / frameOf s) (begins-longer cs cs c (begins-self cs))
+      same-words : ((taken s cs + clocks (final s cs) c) % frameOf s ≡ 0 → ⊥)
+          → frameWords s (cs then c) ((taken s cs + clocks (final s cs) c) / frameOf s) ≡ frameWords s cs (taken s cs / frameOf s)
+      same-words ne =
+          ap (λ (k : ℕ). frameWords s (cs then c) (k / frameOf s)) (sym same-count)
+          ∙ frame-words-in-front s cs (cs then c) (taken s cs / frameOf s) (begins-longer cs cs c (begins-self cs))
           (omega (arith, div-add-mod' (taken s cs) (frameOf s), begun))
         where
           begun : taken s cs % frameOf s ≡ 0 → ⊥
@@ -140,18 +139,18 @@ module _ (s : State) (cs : Calls) (c : Call) (i : Schedule s cs) where
   more : Effect (final s cs) c → Schedule s (cs then c)
   unfolding after
   more (takes zero counts room moves stays) =
-      stands (moves ∙ ap (withPending (final s cs)) (i .pending ∙ sym (stays (lastView s cs)))) counts
+      stands (moves ∙ ap (withPending (final s cs)) (i .pending ∙ sym (stays (lastViewport s cs)))) counts
   more (takes (suc m) counts room moves stays) = takes-some (suc m) counts (omega arith) (room (omega arith)) moves stays
-  more (brings v counts moves view) = stands (moves ∙ ap (withPending (final s cs)) (sym (view (lastView s cs)))) counts
+  more (brings v counts moves view) = stands (moves ∙ ap (withPending (final s cs)) (sym (view (lastViewport s cs)))) counts
 
 pub schedule : (s : State) → s .position ≡ 0 → (cs : Calls) → Schedule s cs
-unfolding final taken lastView
+unfolding final taken lastViewport
 schedule s e nothing =
     record {
       position = e ∙ sym none;
-      window = refl;
+      window-start = refl;
       pending = refl;
-      alike = alike-self (s .words);
+      alike = alike-self (s .screen .words);
       mid-frame = λ ne. absurd (ne none);
     }
   where

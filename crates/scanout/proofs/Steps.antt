@@ -8,8 +8,9 @@ use lib.Dec.{ltb}
 use lib.ListN.{length}
 use Rattle.laws.specs.Answers.{accepted, orElse}
 use Rattle.drawing.proofs.ColourLines.{colour-lines}
-use Rattle.drawing.specs.Colour.{colour}
+use Rattle.drawing.specs.Colour.{Lent, colour}
 use Rattle.drawing.specs.Drawing.{drawPixel}
+use Rattle.memory.specs.Memory.{screen}
 use Rattle.panel.specs.Geometry.{width, height}
 use Rattle.panel.specs.Timing.{Timing, timing, lineClocks}
 use Rattle.registers.specs.Fields.{vspw, hspw}
@@ -21,47 +22,46 @@ use Rattle.signals.specs.Pixel.{spotAt}
 use Rattle.signals.specs.declared.clock.Clock.{Clock}
 use Rattle.signals.specs.declared.pixel.Spot.{Spot}
 use Rattle.signals.specs.declared.pixel.Spot.the-variants.{Pixel, Blank}
-use Rattle.scanout.specs.Calls.{Lent, spotColour, nextColour}
+use Rattle.scanout.specs.Calls.{spotColour, nextColour}
 use Rattle.scanout.specs.FrameByFrame.{PixelAt, StepIn, frameColour, pixelColour}
-use Rattle.scanout.specs.Lists.{Call, aStep, Calls, _then_, Begins, final, clocks, taken, frameView}
-use Rattle.scanout.specs.State.{withView, viewOf, frameOf, shownWords}
+use Rattle.scanout.specs.Lists.{Call, aStep, Calls, _then_, Begins, final, clocks, taken, frameWords}
+use Rattle.scanout.specs.State.{withViewport, viewportOf, frameOf, shownWords, shownScreen}
 use Rattle.scanout.specs.declared.state.State.{State}
 use Rattle.scanout.proofs.Acceptance.{Passed, pixel-drawn}
 use Rattle.scanout.proofs.Effects.{step-passed, step-clock}
-use Rattle.scanout.proofs.Fronts.{taken-more, frame-view-in-front}
+use Rattle.scanout.proofs.Fronts.{taken-more, frame-words-in-front}
 use Rattle.scanout.proofs.PixelTimes.{its-frame, pixel-position, position-pixel}
-use Rattle.scanout.proofs.Schedule.{Schedule, shows-frame-view}
+use Rattle.scanout.proofs.Schedule.{Schedule, shows-frame-words}
 use Rattle.scanout.proofs.Views.{Alike, alike-trans, shown-alike}
 
 -- ---- the view of a call's clocks, in the whole list
 
 module _ (s : State) (calls before : Calls) (c : Call) (b : Begins (before then c) calls) (i : Schedule s before) where
   pub shown-in-list : 0 < clocks (final s before) c
-      → shownWords (final s before) ≡ withView (s .words) (frameView s calls (taken s before / frameOf s))
+      → shownWords (final s before) ≡ frameWords s calls (taken s before / frameOf s)
   shown-in-list some =
-      shows-frame-view s before c i some
-      ∙ ap (withView (s .words))
-      (sym (frame-view-in-front s (before then c) calls (taken s before / frameOf s) b
-      (omega (arith, taken-more s before c, div-mul-le-self (taken s before) (frameOf s)))))
+      shows-frame-words s before c i some
+      ∙ sym (frame-words-in-front s (before then c) calls (taken s before / frameOf s) b
+      (omega (arith, taken-more s before c, div-mul-le-self (taken s before) (frameOf s))))
 
   -- drawing a pixel from the words in force is drawing it under the frame's view
   pub frame-colour : (l : Lent) (short : Bool) → Passed (final s before) (length (l .memory)) (length (l .palette)) short
-      → 0 < clocks (final s before) c → (r k : ℕ) → r < height (s .words) → k < width (s .words)
+      → 0 < clocks (final s before) c → (r k : ℕ) → r < height (s .screen .words) → k < width (s .screen .words)
       → frameColour s calls (taken s before / frameOf s) l r k
-      ≡ accepted (colour (shownWords (final s before)) (final s before .«window_start») (l .memory) (l .palette) r k)
+      ≡ accepted (colour (shownScreen (final s before)) l r k)
   frame-colour l short p some r k h h′ =
-      ap₂ (λ (w : Words) (window : ℕ). drawPixel w window (l .memory) (l .palette) r k) (sym (shown-in-list some)) (sym (i .window))
-      ∙ pixel-drawn (final s before) (l .memory) (l .palette) short p r k
+      ap₂ (λ (w : Words) (k′ : ℕ). drawPixel (screen w k′) l r k) (sym (shown-in-list some)) (sym (i .window-start))
+      ∙ pixel-drawn (final s before) l short p r k
       (rw (ap height (i .alike)) h) (rw (ap width (i .alike)) h′)
 
 -- ---- steps
 
 next-colour-lines : (s : State) (l : Lent) → nextColour s l < 2 ^ 24
 unfolding nextColour spotColour
-next-colour-lines s l = go (spotAt (timing (s .words)) (s .position))
+next-colour-lines s l = go (spotAt (timing (s .screen .words)) (s .position))
   where
-    go : (x : Spot) → spotColour (shownWords s) (s .«window_start») l x < 2 ^ 24
-    go (Pixel r c) = colour-lines (shownWords s) (s .«window_start») (l .memory) (l .palette) r c
+    go : (x : Spot) → spotColour (shownScreen s) l x < 2 ^ 24
+    go (Pixel r c) = colour-lines (shownScreen s) l r c
     go Blank = omega arith
 
 module _ (s : State) (calls : Calls) (q : StepIn s calls) (i : Schedule s (q .before)) where
@@ -73,43 +73,43 @@ module _ (s : State) (calls : Calls) (q : StepIn s calls) (i : Schedule s (q .be
   from = taken s (q .before)
 
   -- the words in force differ from the first ones in the view only
-  alike : Alike (shownWords here) (s .words)
+  alike : Alike (shownWords here) (s .screen .words)
   alike =
-      alike-trans (shownWords here) (here .words) (s .words) (shown-alike here)
+      alike-trans (shownWords here) (here .screen .words) (s .screen .words) (shown-alike here)
       (i .alike)
 
-  same-timing : timing (shownWords here) ≡ timing (s .words)
+  same-timing : timing (shownWords here) ≡ timing (s .screen .words)
   same-timing = ap timing alike
 
   -- so whoever reads the pins by the first words reads them right
-  reads : {A : Type 0} (f : Words → Clock → A) → ((w : Words) (v : _) (k : Clock) → f (withView w v) k ≡ f w k)
-      → f (s .words) (q .shown .clock)
+  reads : {A : Type 0} (f : Words → Clock → A) → ((w : Words) (v : _) (k : Clock) → f (withViewport w v) k ≡ f w k)
+      → f (s .screen .words) (q .shown .clock)
       ≡ f (shownWords here)
       (clockAt (shownWords here) (here .position) (nextColour here (q .lent)))
   reads f same =
-      ap (f (s .words)) (step-clock here (q .lent) (q .shown) (q .done))
-      ∙ sym (same (s .words) (viewOf (shownWords here)) clock)
+      ap (f (s .screen .words)) (step-clock here (q .lent) (q .shown) (q .done))
+      ∙ sym (same (s .screen .words) (viewportOf (shownWords here)) clock)
       ∙ ap (λ (w : Words). f w clock) (sym alike)
     where
       clock : Clock
       clock = clockAt (shownWords here) (here .position) (nextColour here (q .lent))
 
-  vden : vdenActive (s .words) (q .shown .clock) ≡ showsPixel (spotAt (timing (s .words)) (from % frameOf s))
+  vden : vdenActive (s .screen .words) (q .shown .clock) ≡ showsPixel (spotAt (timing (s .screen .words)) (from % frameOf s))
   vden =
       reads vdenActive (λ w v k. refl)
       ∙ vden-at-pixels (shownWords here) (here .position) (nextColour here (q .lent))
       ∙ ap₂ (λ (t : Timing) (p : ℕ). showsPixel (spotAt t p)) same-timing (i .position)
 
   -- what the clock shows, by its number in the list
-  shown-colour : beforeInvvd (s .words) (q .shown .clock)
-      ≡ spotColour (shownWords here) (here .«window_start») (q .lent)
-      (spotAt (timing (s .words)) (from % frameOf s))
+  shown-colour : beforeInvvd (s .screen .words) (q .shown .clock)
+      ≡ spotColour (shownScreen here) (q .lent)
+      (spotAt (timing (s .screen .words)) (from % frameOf s))
   unfolding beforeInvvd nextColour
   shown-colour =
       reads beforeInvvd (λ w v k. refl)
       ∙ colour-read (shownWords here) (here .position)
       (nextColour here (q .lent)) (next-colour-lines here (q .lent))
-      ∙ ap₂ (λ (t : Timing) (p : ℕ). spotColour (shownWords here) (here .«window_start») (q .lent) (spotAt t p))
+      ∙ ap₂ (λ (t : Timing) (p : ℕ). spotColour (shownScreen here) (q .lent) (spotAt t p))
       (ap timing (i .alike)) (i .position)
 
   pub step-counts : clocks here (aStep (q .lent)) ≡ 1
@@ -117,56 +117,56 @@ module _ (s : State) (calls : Calls) (q : StepIn s calls) (i : Schedule s (q .be
   step-counts = ap (orElse (λ k. 1) 0) (q .done)
 
   pub step-shows : (x : PixelAt s from)
-      → (vdenActive (s .words) (q .shown .clock) ≡ true)
-      × (accepted (beforeInvvd (s .words) (q .shown .clock)) ≡ pixelColour s calls (q .lent) from x)
+      → (vdenActive (s .screen .words) (q .shown .clock) ≡ true)
+      × (accepted (beforeInvvd (s .screen .words) (q .shown .clock)) ≡ pixelColour s calls (q .lent) from x)
   unfolding showsPixel spotColour
   step-shows x = (
     vden ∙ ap showsPixel shows-it,
     ap accepted
         (shown-colour
-        ∙ ap (spotColour (shownWords here) (here .«window_start») (q .lent)) shows-it)
+        ∙ ap (spotColour (shownScreen here) (q .lent)) shows-it)
         ∙ sym (frame-colour s calls (q .before) (aStep (q .lent)) (q .inside) i (q .lent) false
         (step-passed here (q .lent) (q .shown) (q .done)) (omega (arith, step-counts)) (x .row) (x .column)
         (x .on-panel .row) (x .on-panel .column))
         ∙ ap (λ (f : ℕ). frameColour s calls f (q .lent) (x .row) (x .column)) (its-frame s from x),
   )
     where
-      shows-it : spotAt (timing (s .words)) (from % frameOf s) ≡ Pixel (x .row) (x .column)
+      shows-it : spotAt (timing (s .screen .words)) (from % frameOf s) ≡ Pixel (x .row) (x .column)
       shows-it =
-          at-shows (timing (s .words)) (from % frameOf s) (x .row) (x .column)
+          at-shows (timing (s .screen .words)) (from % frameOf s) (x .row) (x .column)
           (pixel-position s from x)
 
   pub step-blank : (PixelAt s from → ⊥)
-      → (vdenActive (s .words) (q .shown .clock) ≡ false) × (beforeInvvd (s .words) (q .shown .clock) ≡ 0)
+      → (vdenActive (s .screen .words) (q .shown .clock) ≡ false) × (beforeInvvd (s .screen .words) (q .shown .clock) ≡ 0)
   unfolding showsPixel spotColour
-  step-blank none = go (shows (timing (s .words)) (from % frameOf s))
+  step-blank none = go (shows (timing (s .screen .words)) (from % frameOf s))
     where
-      go : Shows (timing (s .words)) (from % frameOf s)
-          → (vdenActive (s .words) (q .shown .clock) ≡ false) × (beforeInvvd (s .words) (q .shown .clock) ≡ 0)
+      go : Shows (timing (s .screen .words)) (from % frameOf s)
+          → (vdenActive (s .screen .words) (q .shown .clock) ≡ false) × (beforeInvvd (s .screen .words) (q .shown .clock) ≡ 0)
       go (pixel r c a e) = absurd (none (position-pixel s from r c a))
       go (blank other e) = (
         vden ∙ ap showsPixel e,
-        shown-colour ∙ ap (spotColour (shownWords here) (here .«window_start») (q .lent)) e,
+        shown-colour ∙ ap (spotColour (shownScreen here) (q .lent)) e,
       )
 
-  pub step-active : vdenActive (s .words) (q .shown .clock) ≡ true → PixelAt s from
+  pub step-active : vdenActive (s .screen .words) (q .shown .clock) ≡ true → PixelAt s from
   unfolding showsPixel
-  step-active active = go (shows (timing (s .words)) (from % frameOf s))
+  step-active active = go (shows (timing (s .screen .words)) (from % frameOf s))
     where
-      go : Shows (timing (s .words)) (from % frameOf s) → PixelAt s from
+      go : Shows (timing (s .screen .words)) (from % frameOf s) → PixelAt s from
       go (pixel r c a e) = position-pixel s from r c a
       go (blank other e) = absurd (true≢false (sym active ∙ vden ∙ ap showsPixel e))
 
-  pub step-vsync : vsyncActive (s .words) (q .shown .clock)
-      ≡ ltb (from % frameOf s / lineClocks (timing (s .words))) (vspw (s .words) + 1)
+  pub step-vsync : vsyncActive (s .screen .words) (q .shown .clock)
+      ≡ ltb (from % frameOf s / lineClocks (timing (s .screen .words))) (vspw (s .screen .words) + 1)
   step-vsync =
       reads vsyncActive (λ w v k. refl)
       ∙ vsync-in-sync-lines (shownWords here) (here .position)
       (nextColour here (q .lent))
       ∙ ap₂ (λ (w : Words) (p : ℕ). ltb (p / lineClocks (timing w)) (vspw w + 1)) alike (i .position)
 
-  pub step-hsync : hsyncActive (s .words) (q .shown .clock)
-      ≡ ltb (from % frameOf s % lineClocks (timing (s .words))) (hspw (s .words) + 1)
+  pub step-hsync : hsyncActive (s .screen .words) (q .shown .clock)
+      ≡ ltb (from % frameOf s % lineClocks (timing (s .screen .words))) (hspw (s .screen .words) + 1)
   step-hsync =
       reads hsyncActive (λ w v k. refl)
       ∙ hsync-in-sync-clocks (shownWords here) (here .position)

@@ -10,56 +10,57 @@ use lib.Dec.{eqb}
 use Rattle.panel.proofs.Bounds.{frame-clocks-ge}
 use Rattle.panel.specs.Timing.{timing, frameClocks}
 use Rattle.registers.specs.declared.Words.{Words}
+use Rattle.memory.specs.Memory.{screen}
 use Rattle.scanout.specs.Core.{moved}
-use Rattle.scanout.specs.State.{viewOf, withView, frameOf, shownWords, advance, after}
+use Rattle.scanout.specs.State.{viewportOf, withViewport, frameOf, shownWords, advance, after}
 use Rattle.scanout.specs.declared.state.State.{State}
 use Rattle.scanout.specs.declared.state.Viewport.{Viewport}
 
 -- ---- words that differ in the view only
 
 abbrev pub Alike : Words → Words → Type 0
-Alike w w′ = w ≡ withView w′ (viewOf w)
+Alike w w′ = w ≡ withViewport w′ (viewportOf w)
 
 pub alike-self : (w : Words) → Alike w w
 alike-self w = refl
 
 -- whatever view is put into them, the words are then the same
-pub alike-with : (w w′ : Words) → Alike w w′ → (v : Viewport) → withView w v ≡ withView w′ v
-alike-with w w′ a v = ap (λ (x : Words). withView x v) a
+pub alike-with : (w w′ : Words) → Alike w w′ → (v : Viewport) → withViewport w v ≡ withViewport w′ v
+alike-with w w′ a v = ap (λ (x : Words). withViewport x v) a
 
 pub alike-trans : (w w′ w″ : Words) → Alike w w′ → Alike w′ w″ → Alike w w″
-alike-trans w w′ w″ a b = a ∙ alike-with w′ w″ b (viewOf w)
+alike-trans w w′ w″ a b = a ∙ alike-with w′ w″ b (viewportOf w)
 
 pub alike-same : (w w′ w″ : Words) → w ≡ w′ → Alike w′ w″ → Alike w w″
-alike-same w w′ w″ e a = e ∙ a ∙ ap (λ (x : Words). withView w″ (viewOf x)) (sym e)
+alike-same w w′ w″ e a = e ∙ a ∙ ap (λ (x : Words). withViewport w″ (viewportOf x)) (sym e)
 
 -- ---- the words that the next clock is shown with
 
-pub shown-first : (s : State) → s .position ≡ 0 → shownWords s ≡ withView (s .words) (s .pending)
+pub shown-first : (s : State) → s .position ≡ 0 → shownWords s ≡ withViewport (s .screen .words) (s .pending)
 unfolding shownWords
 shown-first s e = rw (eq-eqb (s .position) 0 e) refl
 
-pub shown-later : (s : State) → (s .position ≡ 0 → ⊥) → shownWords s ≡ s .words
+pub shown-later : (s : State) → (s .position ≡ 0 → ⊥) → shownWords s ≡ s .screen .words
 unfolding shownWords
 shown-later s ne = rw (ne-eqb (s .position) 0 ne) refl
 
-pub shown-alike : (s : State) → Alike (shownWords s) (s .words)
+pub shown-alike : (s : State) → Alike (shownWords s) (s .screen .words)
 unfolding shownWords
 shown-alike s = go (eqb (s .position) 0)
   where
     go : (b : Bool)
-        → Alike (cond b (withView (s .words) (s .pending)) (s .words)) (s .words)
+        → Alike (cond b (withViewport (s .screen .words) (s .pending)) (s .screen .words)) (s .screen .words)
     go true = refl
     go false = refl
 
-pub shown-timing : (s : State) → timing (shownWords s) ≡ timing (s .words)
+pub shown-timing : (s : State) → timing (shownWords s) ≡ timing (s .screen .words)
 shown-timing s = ap timing (shown-alike s)
 
 pub shown-frame : (s : State) → frameClocks (timing (shownWords s)) ≡ frameOf s
 shown-frame s = ap frameClocks (shown-timing s)
 
 pub some-frame : (s : State) → 0 < frameOf s
-some-frame s = omega (arith, frame-clocks-ge (s .words))
+some-frame s = omega (arith, frame-clocks-ge (s .screen .words))
 
 -- ---- the state after n clocks of a frame
 
@@ -67,7 +68,7 @@ some-frame s = omega (arith, frame-clocks-ge (s .words))
 moved-on : (s : State) (n : ℕ) → 0 < n → s .position + n < frameOf s → advance (moved n s) ≡ moved (n + 1) s
 unfolding advance
 moved-on s n some room =
-    ap₂ (λ (w : Words) (p : ℕ). record { words = w; «window_start» = s .«window_start»; pending = s .pending; position = p })
+    ap₂ (λ (w : Words) (p : ℕ). record { screen = screen w (s .screen .«window_start»); pending = s .pending; position = p })
     (shown-later (moved n s) (λ z. omega (arith, z, inside)))
     (ap₂ (λ (p size : ℕ). (p + 1) % size) inside (shown-frame s)
     ∙ ap (λ (p : ℕ). p % frameOf s) (omega arith))
@@ -98,18 +99,18 @@ position-after s (suc n) room =
     ap (λ (t : State). t .position) (after-moved s (suc n) (omega arith) (omega arith)) ∙ mod-eq-of-lt room
 
 -- what no clock changes
-pub window-after : (s : State) (n : ℕ) → after n s .«window_start» ≡ s .«window_start»
+pub window-start-after : (s : State) (n : ℕ) → after n s .screen .«window_start» ≡ s .screen .«window_start»
 unfolding after advance
-window-after s zero = refl
-window-after s (suc n) = window-after s n
+window-start-after s zero = refl
+window-start-after s (suc n) = window-start-after s n
 
 pub pending-after : (s : State) (n : ℕ) → after n s .pending ≡ s .pending
 unfolding after advance
 pending-after s zero = refl
 pending-after s (suc n) = pending-after s n
 
-pub alike-after : (s : State) (n : ℕ) → Alike (after n s .words) (s .words)
+pub alike-after : (s : State) (n : ℕ) → Alike (after n s .screen .words) (s .screen .words)
 unfolding after advance
 alike-after s zero = refl
 alike-after s (suc n) =
-    alike-trans (shownWords (after n s)) (after n s .words) (s .words) (shown-alike (after n s)) (alike-after s n)
+    alike-trans (shownWords (after n s)) (after n s .screen .words) (s .screen .words) (shown-alike (after n s)) (alike-after s n)

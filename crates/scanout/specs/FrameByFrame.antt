@@ -1,7 +1,8 @@
 -- Demand 3 (document 01, "Clocks and lines", its last two paragraphs): over any list of steps, runs and viewport changes "the clocks
 -- taken make frame after frame; each panel pixel appears exactly at the clock that the formula gives, with its colour under the
 -- frame's view; every other clock is blank". One record holds the whole claim; proofs/FrameByFrame proves it of every list and of
--- every state at position 0. "Each may be lent any memory, palette and picture." Assumes nothing.
+-- every state at position 0. "Each may be lent any memory, palette and picture."
+-- It is the claim, so a reader must believe it. Assumes nothing.
 use mathlib.Core.Bool.{true, false}
 use mathlib.Core.List.{List}
 use mathlib.Core.Path.{_≡_}
@@ -9,7 +10,9 @@ use Prim.Native.Nat.{ℕ, zero, suc, _+_, _-_, _*_, _/_, _%_, min, _<_, _≤_}
 use lib.Dec.{ltb}
 use lib.ListN.{length, getD}
 use Rattle.laws.specs.Answers.{Answer, accepted}
+use Rattle.drawing.specs.Colour.{Lent}
 use Rattle.drawing.specs.Drawing.{drawPixel}
+use Rattle.memory.specs.Memory.{screen}
 use Rattle.panel.specs.Geometry.{width, height}
 use Rattle.panel.specs.Timing.{timing, lineClocks}
 use Rattle.registers.specs.Fields.{vspw, hspw}
@@ -17,9 +20,9 @@ use Rattle.registers.specs.declared.Words.{Words}
 use Rattle.signals.specs.Clock.{vsyncActive, hsyncActive, vdenActive, beforeInvvd}
 use Rattle.signals.specs.Pixel.{pixelClock}
 use Rattle.scanout.specs.Answers.{Shown, Taken}
-use Rattle.scanout.specs.Calls.{Lent, start, step, run}
-use Rattle.scanout.specs.Lists.{Call, aStep, aRun, lentTo, refusal, Calls, nothing, _then_, Begins, final, taken, lastView, pictureLeft, frameView}
-use Rattle.scanout.specs.State.{withView, frameOf}
+use Rattle.scanout.specs.Calls.{start, step, run}
+use Rattle.scanout.specs.Lists.{Call, aStep, aRun, lentTo, refusal, Calls, nothing, _then_, Begins, final, taken, lastViewport, pictureLeft, frameWords}
+use Rattle.scanout.specs.State.{frameOf}
 use Rattle.scanout.specs.declared.state.State.{State}
 
 -- ---- frames and pixels
@@ -35,25 +38,25 @@ pub record OnPanel (w : Words) (r c : ℕ) : Type 0 where
 
 -- "Its pixel in row r, column c appears at clock f × L × C + ((VSPW+1) + (VBPD+1) + r) × C + (HSPW+1) + (HBPD+1) + c."
 abbrev pub pixelTime : State → ℕ → ℕ → ℕ → ℕ
-pixelTime s f r c = f * frameOf s + pixelClock (timing (s .words)) r c
+pixelTime s f r c = f * frameOf s + pixelClock (timing (s .screen .words)) r c
 
 -- clock n is a pixel's
 pub record PixelAt (s : State) (n : ℕ) : Type 0 where
   pub frame : ℕ
   pub row : ℕ
   pub column : ℕ
-  pub on-panel : OnPanel (s .words) row column
+  pub on-panel : OnPanel (s .screen .words) row column
   pub time : n ≡ pixelTime s frame row column
 
 -- "entry r × W + c of its picture"
 abbrev pub entryOf : (s : State) (n : ℕ) → PixelAt s n → ℕ
-entryOf s n x = x .row * width (s .words) + x .column
+entryOf s n x = x .row * width (s .screen .words) + x .column
 
 -- "The colour is what drawing this one pixel gives with the words that the list begins with, the frame's view as LCDSADDR1 and 2,
 -- the window start, and the memory and palette lent to that call."
 abbrev pub frameColour : State → Calls → ℕ → Lent → ℕ → ℕ → Answer ℕ
 frameColour s calls f l r c =
-    drawPixel (withView (s .words) (frameView s calls f)) (s .«window_start») (l .memory) (l .palette) r c
+    drawPixel (screen (frameWords s calls f) (s .screen .«window_start»)) l r c
 
 abbrev pub pixelColour : (s : State) → Calls → Lent → (n : ℕ) → PixelAt s n → Answer ℕ
 pixelColour s calls l n x = frameColour s calls (x .frame) l (x .row) (x .column)
@@ -124,20 +127,20 @@ pub record FrameByFrame (s : State) (calls : Calls) : Type 0 where
   pub step-takes : (q : StepIn s calls) → taken s (q .before then aStep (q .lent)) ≡ taken s (q .before) + 1
   -- "A step shows it by VDEN active and the colour, before INVVD, in the data word"
   pub step-shows : (q : StepIn s calls) (x : PixelAt s (taken s (q .before)))
-      → (vdenActive (s .words) (q .shown .clock) ≡ true)
-      × (accepted (beforeInvvd (s .words) (q .shown .clock)) ≡ pixelColour s calls (q .lent) (taken s (q .before)) x)
+      → (vdenActive (s .screen .words) (q .shown .clock) ≡ true)
+      × (accepted (beforeInvvd (s .screen .words) (q .shown .clock)) ≡ pixelColour s calls (q .lent) (taken s (q .before)) x)
   -- "every other clock is blank": "VDEN not active and colour 0 before INVVD"
   pub step-blank : (q : StepIn s calls) → (PixelAt s (taken s (q .before)) → ⊥)
-      → (vdenActive (s .words) (q .shown .clock) ≡ false) × (beforeInvvd (s .words) (q .shown .clock) ≡ 0)
+      → (vdenActive (s .screen .words) (q .shown .clock) ≡ false) × (beforeInvvd (s .screen .words) (q .shown .clock) ≡ 0)
   -- and VDEN is active at a pixel's clock only
-  pub step-active : (q : StepIn s calls) → vdenActive (s .words) (q .shown .clock) ≡ true → PixelAt s (taken s (q .before))
+  pub step-active : (q : StepIn s calls) → vdenActive (s .screen .words) (q .shown .clock) ≡ true → PixelAt s (taken s (q .before))
   -- "VSYNC is active through all sync lines, HSYNC through the sync clocks of every line"
   pub step-vsync : (q : StepIn s calls)
-      → vsyncActive (s .words) (q .shown .clock)
-      ≡ ltb (taken s (q .before) % frameOf s / lineClocks (timing (s .words))) (vspw (s .words) + 1)
+      → vsyncActive (s .screen .words) (q .shown .clock)
+      ≡ ltb (taken s (q .before) % frameOf s / lineClocks (timing (s .screen .words))) (vspw (s .screen .words) + 1)
   pub step-hsync : (q : StepIn s calls)
-      → hsyncActive (s .words) (q .shown .clock)
-      ≡ ltb (taken s (q .before) % frameOf s % lineClocks (timing (s .words))) (hspw (s .words) + 1)
+      → hsyncActive (s .screen .words) (q .shown .clock)
+      ≡ ltb (taken s (q .before) % frameOf s % lineClocks (timing (s .screen .words))) (hspw (s .screen .words) + 1)
   -- "a run by writing the colour at entry r × W + c of its picture"
   pub run-shows : (q : RunIn s calls) (n : ℕ) (x : PixelAt s n) → RunTakes s calls q n
       → accepted (getD (leftBy s calls q) (entryOf s n x) 0) ≡ pixelColour s calls (q .lent) n x
@@ -150,7 +153,7 @@ pub record FrameByFrame (s : State) (calls : Calls) : Type 0 where
   pub refused-leaves : (before : Calls) (c : Call) → Begins (before then c) calls → (refusal (final s before) c ≡ 0 → ⊥)
       → (final s (before then c) ≡ final s before)
       × (taken s (before then c) ≡ taken s before)
-      × (lastView s (before then c) ≡ lastView s before)
+      × (lastViewport s (before then c) ≡ lastViewport s before)
       × ((p : List ℕ) → pictureLeft s p (before then c) ≡ pictureLeft s p before)
   pub refused-keeps : (before : Calls) (l : Lent) (n : ℕ) (picture : List ℕ) → Begins (before then aRun l n picture) calls
       → (refusal (final s before) (aRun l n picture) ≡ 0 → ⊥) → run (final s before) l n picture .left ≡ picture
@@ -159,14 +162,14 @@ pub record FrameByFrame (s : State) (calls : Calls) : Type 0 where
   pub once : (n : ℕ) (p q : Takes s calls n) → (p .before then p .call) ≡ (q .before then q .call)
   pub by-which : (n : ℕ) → Takes s calls n → TakenBy s calls n
   -- a pixel's clock lies in its frame, and is no other pixel's
-  pub pixel-in-frame : (f r c : ℕ) → OnPanel (s .words) r c → InFrame s f (pixelTime s f r c)
+  pub pixel-in-frame : (f r c : ℕ) → OnPanel (s .screen .words) r c → InFrame s f (pixelTime s f r c)
   pub one-pixel : (n : ℕ) (x y : PixelAt s n) → (x .frame ≡ y .frame) × (x .row ≡ y .row) × (x .column ≡ y .column)
   -- a whole frame shows each pixel
-  pub whole-frame : (f : ℕ) → (f + 1) * frameOf s ≤ taken s calls → (r c : ℕ) → OnPanel (s .words) r c
+  pub whole-frame : (f : ℕ) → (f + 1) * frameOf s ≤ taken s calls → (r c : ℕ) → OnPanel (s .screen .words) r c
       → Takes s calls (pixelTime s f r c)
   -- in reading order
-  pub reading-order : (f r c r′ c′ : ℕ) → OnPanel (s .words) r c → OnPanel (s .words) r′ c′
-      → r * width (s .words) + c < r′ * width (s .words) + c′ → pixelTime s f r c < pixelTime s f r′ c′
+  pub reading-order : (f r c r′ c′ : ℕ) → OnPanel (s .screen .words) r c → OnPanel (s .screen .words) r′ c′
+      → r * width (s .screen .words) + c < r′ * width (s .screen .words) + c′ → pixelTime s f r c < pixelTime s f r′ c′
   -- where "the calls that take clocks of one frame are lent the same memory and palette", each of its pixels has one colour
   pub one-colour : SameLent s calls → (f r c n m : ℕ) (p : Takes s calls n) (q : Takes s calls m) → InFrame s f n → InFrame s f m
       → frameColour s calls f (lentTo (p .call)) r c ≡ frameColour s calls f (lentTo (q .call)) r c
@@ -186,7 +189,7 @@ Demand3 = (s : State) → s .position ≡ 0 → (calls : Calls) → FrameByFrame
 
 abbrev pub Demand3FromStart : Type 0
 Demand3FromStart =
-    (words : List ℕ) (window : ℕ) (memory : List ℕ) (s : State) → start words window memory ≡ accepted s
+    (words : List ℕ) (window-start : ℕ) (memory : List ℕ) (s : State) → start words window-start memory ≡ accepted s
     → (calls : Calls) → FrameByFrame s calls
 
 -- ---- beside it

@@ -1,5 +1,6 @@
 -- Lists of calls (document 01, "Clocks and lines"): "Demand 3 is a single claim about the whole list". "Each gets the state that the
--- call before returned, after a refusal the old one; nobody else writes it." Assumes nothing.
+-- call before returned, after a refusal the old one; nobody else writes it."
+-- The claim is stated over it, so a reader must believe it. Assumes nothing.
 use mathlib.Core.Bool.{cond}
 use mathlib.Core.List.{List, []}
 use mathlib.Core.Logic.{_⊎_}
@@ -7,8 +8,10 @@ use mathlib.Core.Path.{_≡_}
 use Prim.Native.Nat.{ℕ, _+_, _*_}
 use lib.Dec.{ltb}
 use Rattle.laws.specs.Answers.{orElse, numberOf}
-use Rattle.scanout.specs.Calls.{Lent, step, run, change}
-use Rattle.scanout.specs.State.{frameOf}
+use Rattle.drawing.specs.Colour.{Lent}
+use Rattle.registers.specs.declared.Words.{Words}
+use Rattle.scanout.specs.Calls.{step, run, change}
+use Rattle.scanout.specs.State.{withViewport, frameOf}
 use Rattle.scanout.specs.declared.state.State.{State}
 use Rattle.scanout.specs.declared.state.Viewport.{Viewport}
 
@@ -79,9 +82,9 @@ taken s nothing = 0
 taken s (cs then c) = taken s cs + clocks (final s cs) c
 
 -- the view that waits after it: the last accepted, or the state's own
-unfoldable pub lastView : State → Calls → Viewport
-lastView s nothing = s .pending
-lastView s (cs then c) = pendingAfter (final s cs) (lastView s cs) c
+unfoldable pub lastViewport : State → Calls → Viewport
+lastViewport s nothing = s .pending
+lastViewport s (cs then c) = pendingAfter (final s cs) (lastViewport s cs) c
 
 -- the picture that the accepted runs leave, p at first
 unfoldable pub pictureLeft : State → List ℕ → Calls → List ℕ
@@ -95,5 +98,9 @@ callsBefore s n (cs then c) =
     cond (ltb n (taken s cs)) (callsBefore s n cs) (cond (ltb n (taken s (cs then c))) cs (cs then c))
 
 -- "Frame f, from 0, has the clocks from f × L × C": its view is the one that waits when its first clock is taken
-unfoldable pub frameView : State → Calls → ℕ → Viewport
-frameView s calls f = lastView s (callsBefore s (f * frameOf s) calls)
+unfoldable pub frameViewport : State → Calls → ℕ → Viewport
+frameViewport s calls f = lastViewport s (callsBefore s (f * frameOf s) calls)
+
+-- the words that a frame is scanned with: the words that the list begins with, and its view
+unfoldable pub frameWords : State → Calls → ℕ → Words
+frameWords s calls f = withViewport (s .screen .words) (frameViewport s calls f)

@@ -2,19 +2,18 @@
 ghost use mathlib.Core.Path.{_≡_};
 ghost use Prim.Native.Nat.{_+_, _≤_};
 ghost use lib.ListN.{length};
+ghost use Rattle.drawing.specs.Colour.{lending};
 ghost use Rattle.drawing.specs.Drawing.{pixels};
-ghost use Rattle.registers.specs.Loading.{tooShort};
 ghost use Rattle.scanout.specs.Answers.{ran};
-ghost use Rattle.scanout.specs.Calls.{countOf, run, drawn};
-ghost use Rattle.scanout.specs.Core.{lending, running};
-ghost use Rattle.scanout.specs.Refusals.{judgeScan};
-ghost use Rattle.scanout.specs.State.{frameOf};
+ghost use Rattle.scanout.specs.Calls.{countOf, run, drawn, running};
+ghost use Rattle.scanout.specs.State.{frameOf, shownScreen};
 use super::refusals::judge_scan;
 use super::state::State;
 use super::state::moved;
-use super::state::shown_words;
+use super::state::shown_screen;
 use drawing::picture::draw_stretch;
 use drawing::picture::pixels_of;
+use memory::Screen;
 use panel::timing::frame_clocks;
 use signals::pixel::pixels_before;
 
@@ -29,30 +28,28 @@ fn count_of(s: State, clocks: u64) -> u32
     requires { ⌜ s .position ≤ frameOf s ⌝ }
     ensures { λ r. ⌜ r ≡ countOf s clocks ⌝ }
 {
-    let left = frame_clocks(s.words) - s.position;
+    let left = frame_clocks(s.screen.words) - s.position;
     if clocks < left as u64 {
         return clocks as u32;
     }
     left
 }
 
-// Draws the pixels of the next clocks of a frame: a stretch of the picture.
-fn draw_clocks(s: State, video: &[u32], palette: &[u16], count: u32, picture: &mut [u32])
-    requires { ⌜ (judgeScan s (length (now video)) (length (now palette)) (tooShort (length (now picture)) (pixels (s .words))) ≡ 0) × (s .position + count ≤ frameOf s) ⌝ }
+// Draws the pixels of the next clocks of a frame, which are shown with this screen: a stretch of the picture.
+fn draw_clocks(
+    s: State,
+    shown: Screen,
+    video: &[u32],
+    palette: &[u16],
+    count: u32,
+    picture: &mut [u32],
+)
+    requires { ⌜ (shown ≡ shownScreen s) × (s .position + count ≤ frameOf s) × (pixels (s .screen .words) ≤ length (now picture)) ⌝ }
     ensures { λ _. ⌜ now (picture .exit) ≡ drawn count s (lending (now (video .entry)) (now (palette .entry))) (now (picture .entry)) ⌝ }
 {
-    let w = shown_words(s);
-    let first = pixels_before(w, s.position);
-    let end = pixels_before(w, s.position + count);
-    draw_stretch(
-        w,
-        s.window_start,
-        video,
-        palette,
-        first,
-        end - first,
-        picture,
-    );
+    let first = pixels_before(s.screen.words, s.position);
+    let end = pixels_before(s.screen.words, s.position + count);
+    draw_stretch(shown, video, palette, first, end - first, picture);
 }
 
 // Takes up to a number of clocks, and stops at the frame's end: how many it took and the next state. The colours of its active clocks go
@@ -62,7 +59,7 @@ pub fn run(s: State, video: &[u32], palette: &[u16], clocks: u64, picture: &mut 
     ensures { λ r. ⌜ running (ran r) (now (picture .exit)) ≡ run s (lending (now (video .entry)) (now (palette .entry))) clocks (now (picture .entry)) ⌝ }
 {
     let room = picture.len();
-    let short = room < pixels_of(s.words) as usize;
+    let short = room < pixels_of(s.screen.words) as usize;
     let refusal = judge_scan(s, video.len(), palette.len(), short);
     if refusal != 0 {
         return Ran::Refused(refusal);
@@ -71,6 +68,7 @@ pub fn run(s: State, video: &[u32], palette: &[u16], clocks: u64, picture: &mut 
     if count == 0 {
         return Ran::Took(0, s);
     }
-    draw_clocks(s, video, palette, count, picture);
-    Ran::Took(count as u64, moved(s, count))
+    let shown = shown_screen(s);
+    draw_clocks(s, shown, video, palette, count, picture);
+    Ran::Took(count as u64, moved(s, shown, count))
 }

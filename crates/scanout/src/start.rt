@@ -1,12 +1,14 @@
 // A start.
 ghost use mathlib.Core.Path.{_≡_};
 ghost use Rattle.laws.specs.Answers.{judged};
+ghost use Rattle.memory.specs.Memory.{screen};
 ghost use Rattle.scanout.specs.Answers.{started};
 ghost use Rattle.scanout.specs.Calls.{begun, start};
 ghost use Rattle.scanout.specs.Refusals.{judgeStart};
 use super::refusals::judge_start;
 use super::state::State;
 use super::state::viewport_of;
+use memory::Screen;
 use registers::Loaded;
 use registers::Words;
 use registers::load;
@@ -17,17 +19,20 @@ pub enum Started {
     Refused(u32),
 }
 
-fn begin(w: Words, window_start: u32, lent: usize) -> Started
-    ensures { λ r. ⌜ started r ≡ judged (judgeStart w «window_start» lent) (begun w «window_start») ⌝ }
+fn begin(words: Words, window_start: u32, lent: usize) -> Started
+    ensures { λ r. ⌜ started r ≡ judged (judgeStart (screen words «window_start») lent) (begun (screen words «window_start»)) ⌝ }
 {
-    let refusal = judge_start(w, window_start, lent);
+    let screen = Screen {
+        words,
+        window_start,
+    };
+    let refusal = judge_start(screen, lent);
     if refusal != 0 {
         return Started::Refused(refusal);
     }
-    let pending = viewport_of(w);
+    let pending = viewport_of(words);
     Started::Ready(State {
-        words: w,
-        window_start,
+        screen,
         pending,
         position: 0,
     })

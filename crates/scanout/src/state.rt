@@ -2,7 +2,8 @@
 ghost use mathlib.Core.Path.{_≡_};
 ghost use Prim.Native.Nat.{_+_, _%_, _<_, _≤_};
 ghost use Rattle.scanout.specs.Core.{moved};
-ghost use Rattle.scanout.specs.State.{withView, viewOf, frameOf, shownWords};
+ghost use Rattle.scanout.specs.State.{withViewport, viewportOf, frameOf, shownWords, shownScreen};
+use memory::Screen;
 use panel::timing::frame_clocks;
 use registers::Words;
 
@@ -12,18 +13,17 @@ pub struct Viewport {
     pub lcdsaddr2: u32,
 }
 
-// The nine words in force, the byte address of the lent memory, the viewport that waits for the next frame (the paper's waiting view)
-// and the number of the next clock in its frame.
+// The screen in force, the viewport that waits for the next frame (the paper's waiting view) and the number of the next clock in its
+// frame.
 pub struct State {
-    pub words: Words,
-    pub window_start: u32,
+    pub screen: Screen,
     pub pending: Viewport,
     pub position: u32,
 }
 
 // The viewport in the words.
 pub fn viewport_of(w: Words) -> Viewport
-    ensures { λ r. ⌜ r ≡ viewOf w ⌝ }
+    ensures { λ r. ⌜ r ≡ viewportOf w ⌝ }
 {
     Viewport {
         lcdsaddr1: w.lcdsaddr1,
@@ -33,7 +33,7 @@ pub fn viewport_of(w: Words) -> Viewport
 
 // The words with another viewport.
 pub fn with_viewport(w: Words, v: Viewport) -> Words
-    ensures { λ r. ⌜ r ≡ withView w v ⌝ }
+    ensures { λ r. ⌜ r ≡ withViewport w v ⌝ }
 {
     Words {
         lcdcon1: w.lcdcon1,
@@ -53,9 +53,20 @@ pub fn shown_words(s: State) -> Words
     ensures { λ r. ⌜ r ≡ shownWords s ⌝ }
 {
     if s.position == 0 {
-        return with_viewport(s.words, s.pending);
+        return with_viewport(s.screen.words, s.pending);
     }
-    s.words
+    s.screen.words
+}
+
+// The screen that the next clock is shown with.
+pub fn shown_screen(s: State) -> Screen
+    ensures { λ r. ⌜ r ≡ shownScreen s ⌝ }
+{
+    let words = shown_words(s);
+    Screen {
+        words,
+        window_start: s.screen.window_start,
+    }
 }
 
 // The number of the next clock in a frame of so many: after the last comes clock 0.
@@ -70,17 +81,15 @@ fn position_after(position: u32, count: u32, frame: u32) -> u32
     next
 }
 
-// The state so many clocks on, the first of them being taken and the last inside the frame.
-pub(crate) fn moved(s: State, count: u32) -> State
-    requires { ⌜ s .position + count ≤ frameOf s ⌝ }
+// The state so many clocks on, all of one frame and shown with this screen.
+pub(crate) fn moved(s: State, shown: Screen, count: u32) -> State
+    requires { ⌜ (shown ≡ shownScreen s) × (s .position + count ≤ frameOf s) ⌝ }
     ensures { λ r. ⌜ r ≡ moved count s ⌝ }
 {
-    let words = shown_words(s);
     let pending = s.pending;
-    let position = position_after(s.position, count, frame_clocks(words));
+    let position = position_after(s.position, count, frame_clocks(s.screen.words));
     State {
-        words,
-        window_start: s.window_start,
+        screen: shown,
         pending,
         position,
     }

@@ -1,16 +1,14 @@
 // One clock.
 ghost use mathlib.Core.Path.{_≡_};
-ghost use Rattle.drawing.specs.Drawing.{drawn};
+ghost use Rattle.drawing.specs.Colour.{lending};
 ghost use Rattle.scanout.specs.Answers.{stepped};
-ghost use Rattle.scanout.specs.Calls.{step};
-ghost use Rattle.scanout.specs.Core.{lending, spotDrawn};
+ghost use Rattle.scanout.specs.Calls.{spotColour, step};
 use super::refusals::judge_scan;
 use super::state::State;
 use super::state::moved;
-use super::state::shown_words;
-use drawing::pixel::Drawn;
-use drawing::pixel::draw_pixel;
-use registers::Words;
+use super::state::shown_screen;
+use drawing::pixel::pixel_colour;
+use memory::Screen;
 use signals::clock::Clock;
 use signals::clock::clock_of;
 use signals::parts::parts_at;
@@ -24,12 +22,12 @@ pub enum Stepped {
 }
 
 // The colour, before INVVD, of what a clock shows.
-fn draw_spot(w: Words, window_start: u32, video: &[u32], palette: &[u16], spot: Spot) -> Drawn
-    ensures { λ r. ⌜ drawn r ≡ spotDrawn w «window_start» (lending (now (video .entry)) (now (palette .entry))) spot ⌝ }
+fn spot_colour(s: Screen, video: &[u32], palette: &[u16], spot: Spot) -> u32
+    ensures { λ r. ⌜ r ≡ spotColour s (lending (now (video .entry)) (now (palette .entry))) spot ⌝ }
 {
     match spot {
-        Spot::Pixel(row, column) => draw_pixel(w, window_start, video, palette, row, column),
-        Spot::Blank => Drawn::Colour(0),
+        Spot::Pixel(row, column) => pixel_colour(s, video, palette, row, column),
+        Spot::Blank => 0,
     }
 }
 
@@ -42,10 +40,8 @@ pub fn step(s: State, video: &[u32], palette: &[u16]) -> Stepped
     if refusal != 0 {
         return Stepped::Refused(refusal);
     }
-    let w = shown_words(s);
-    let parts = parts_at(w, s.position);
-    match draw_spot(w, s.window_start, video, palette, spot_of(parts)) {
-        Drawn::Colour(v) => Stepped::Done(clock_of(w, parts, v), moved(s, 1)),
-        Drawn::Refused(n) => Stepped::Refused(n),
-    }
+    let shown = shown_screen(s);
+    let parts = parts_at(shown.words, s.position);
+    let colour = spot_colour(shown, video, palette, spot_of(parts));
+    Stepped::Done(clock_of(shown.words, parts, colour), moved(s, shown, 1))
 }

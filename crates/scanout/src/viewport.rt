@@ -21,10 +21,9 @@ pub fn change_viewport(s: State, video: &[u32], v: Viewport) -> Changed
     if refusal != 0 {
         return Changed::Refused(refusal);
     }
-    let words = s.words;
+    let screen = s.screen;
     Changed::Pending(State {
-        words,
-        window_start: s.window_start,
+        screen,
         pending: v,
         position: s.position,
     })

@@ -1,15 +1,19 @@
--- The scan in a lent slice (document 01, "Clocks and lines" and "Numbers of refusal"). Its state is 18 entries; where the slice has
--- fewer, no state can be read, and 10 stands before all. Assumes nothing.
+-- The scan in lent slices (document 01, "Clocks and lines" and "Numbers of refusal"). Its state is 13 entries; where the slice has
+-- fewer, no state can be read, and 10 stands before all. Promises cite it, so a reader must believe it. Assumes nothing.
+use mathlib.Core.Bool.{Bool, _||_}
 use mathlib.Core.List.{List, [], _∷_, _++_}
 use Prim.Native.Nat.{ℕ}
 use lib.ListN.{length, getD, set}
-use Rattle.laws.specs.Answers.{Answer, accepted, refused, judged, Outcome, leaves, outcome, outcomeOn}
+use Rattle.laws.specs.Answers.{Answer, accepted, refused, judged, andThen, Outcome, leaves, outcome, outcomeOn}
 use Rattle.laws.specs.Cases.{_when_, lowest}
-use Rattle.laws.specs.Storing.{stores}
-use Rattle.registers.specs.Loading.{nineWords, wordEntries, tooShort}
+use Rattle.drawing.specs.Colour.{Lent, lending}
+use Rattle.drawing.specs.Drawing.{pixels}
+use Rattle.memory.specs.Memory.{screen}
+use Rattle.registers.specs.Loading.{nineWords, wordEntries, tooShort, begunWith}
 use Rattle.signals.specs.declared.clock.Clock.{Clock}
-use Rattle.scanout.specs.Calls.{Lent, start, step, run, change}
-use Rattle.scanout.specs.Core.{lending}
+use Rattle.scanout.specs.Answers.{Shown, Taken}
+use Rattle.scanout.specs.Calls.{start, oneClock, manyClocks, drawn, change}
+use Rattle.scanout.specs.Refusals.{judgeScan}
 use Rattle.scanout.specs.declared.state.State.{State}
 use Rattle.scanout.specs.declared.state.Viewport.{Viewport}
 
@@ -19,8 +23,7 @@ use Rattle.scanout.specs.declared.state.Viewport.{Viewport}
 abbrev pub stateOf : List ℕ → State
 stateOf scan =
     record {
-      words = nineWords scan;
-      «window_start» = getD scan 9 0;
+      screen = screen (nineWords scan) (getD scan 9 0);
       pending = record { lcdsaddr1 = getD scan 10 0; lcdsaddr2 = getD scan 11 0 };
       position = getD scan 12 0;
     }
@@ -28,15 +31,18 @@ stateOf scan =
 -- its entries, in the same order
 abbrev pub entriesOf : State → List ℕ
 entriesOf s =
-    wordEntries (s .words) ++ (s .«window_start» ∷ s .pending .lcdsaddr1 ∷ s .pending .lcdsaddr2 ∷ s .position ∷ [])
+    wordEntries (s .screen .words) ++ (s .screen .«window_start» ∷ s .pending .lcdsaddr1 ∷ s .pending .lcdsaddr2 ∷ s .position ∷ [])
 
 -- a slice in which it is stored; further entries stay
 unfoldable pub putState : State → List ℕ → List ℕ
-putState s scan = stores (λ i. getD (entriesOf s) i 0) 0 13 scan
+putState s scan = begunWith (entriesOf s) scan
 
--- 10: fewer than 18 entries for the scan
+-- 10: fewer than 13 entries for the scan
+abbrev pub shortOfState : List ℕ → Bool
+shortOfState scan = tooShort (length scan) 13
+
 abbrev pub judgeSlice : List ℕ → ℕ
-judgeSlice scan = lowest (10 when tooShort (length scan) 18 ∷ [])
+judgeSlice scan = lowest (10 when shortOfState scan ∷ [])
 
 -- the state that a slice gives
 unfoldable pub loadScan : List ℕ → Answer State
@@ -50,53 +56,82 @@ putStarted s scan = outcome (judgeSlice scan) scan (putState s scan)
 
 -- of the state that a start gives
 unfoldable pub startScan : List ℕ → ℕ → List ℕ → List ℕ → Outcome
-startScan words window memory scan = outcomeOn (start words window memory) scan (λ s. putStarted s scan)
+startScan words window-start memory scan = outcomeOn (start words window-start memory) scan (λ s. putStarted s scan)
 
 -- ---- step
 
--- a clock's levels, and that one clock was taken
+-- the levels of a clock, in order
 abbrev pub levels : Clock → List ℕ
-levels k = k .vsync ∷ k .hsync ∷ k .vden ∷ k .vd ∷ 1 ∷ []
+levels k = k .vsync ∷ k .hsync ∷ k .vden ∷ k .vd ∷ []
 
--- the next state to entries 0 to 12, and these to 13 to 17
-unfoldable pub putStep : Clock → State → List ℕ → List ℕ
-putStep k s scan = stores (λ i. getD (levels k) i 0) 13 5 (putState s scan)
+-- a slice in which they are stored; further entries stay
+unfoldable pub putLevels : Clock → List ℕ → List ℕ
+putLevels k clock = begunWith (levels k) clock
 
--- what a step of a state leaves
-unfoldable pub stepOn : State → Lent → List ℕ → Outcome
-stepOn s l scan = outcomeOn (step s l) scan (λ k. leaves 0 (putStep (k .clock) (k .next) scan))
+-- 10: fewer than four entries for them
+abbrev pub shortOfLevels : List ℕ → Bool
+shortOfLevels clock = tooShort (length clock) 4
 
--- and of the state that the slice gives
-unfoldable pub stepScan : List ℕ → List ℕ → List ℕ → Outcome
-stepScan scan memory palette = outcomeOn (loadScan scan) scan (λ s. stepOn s (lending memory palette) scan)
+-- judged as a step, and by that
+unfoldable pub stepOn : State → Lent → List ℕ → Answer Shown
+stepOn s l clock =
+    judged (judgeScan s (length (l .memory)) (length (l .palette)) (shortOfLevels clock))
+    (oneClock s l)
+
+-- what a step leaves: its number, the scan's slice and the slice of levels
+pub record StepLeft : Type 0 where
+  pub refusal : ℕ
+  pub scan : List ℕ
+  pub clock : List ℕ
+
+abbrev pub stepLeaves : ℕ → List ℕ → List ℕ → StepLeft
+stepLeaves n scan clock = record { refusal = n; scan = scan; clock = clock }
+
+-- the next state and the levels where it is accepted; both slices as they were where it is refused
+unfoldable pub stepLeft : List ℕ → List ℕ → Answer Shown → StepLeft
+stepLeft scan clock (accepted k) = stepLeaves 0 (putState (k .next) scan) (putLevels (k .clock) clock)
+stepLeft scan clock (refused n) = stepLeaves n scan clock
+
+-- of the state that the slice gives
+unfoldable pub stepScan : List ℕ → List ℕ → List ℕ → List ℕ → StepLeft
+stepScan scan memory palette clock =
+    stepLeft scan clock (andThen (loadScan scan) (λ s. stepOn s (lending memory palette) clock))
 
 -- ---- run
 
--- the next state to entries 0 to 12, and to 17 how many clocks the run took
-unfoldable pub putRun : ℕ → State → List ℕ → List ℕ
-putRun count s scan = set (putState s scan) 17 count
+-- 10: no entry for the count
+abbrev pub shortOfCount : List ℕ → Bool
+shortOfCount taken = tooShort (length taken) 1
 
--- what a run leaves: its number and the scan's slice, and the picture
-pub record RanLeft : Type 0 where
-  pub scan : Outcome
+-- judged as a run, and by that
+unfoldable pub runOn : State → Lent → ℕ → List ℕ → List ℕ → Answer Taken
+runOn s l n picture taken =
+    judged
+    (judgeScan s (length (l .memory)) (length (l .palette))
+    (tooShort (length picture) (pixels (s .screen .words)) || shortOfCount taken))
+    (manyClocks s n)
+
+-- what a run leaves: its number, the scan's slice, the picture and the slice of the count
+pub record RunLeft : Type 0 where
+  pub refusal : ℕ
+  pub scan : List ℕ
   pub picture : List ℕ
+  pub taken : List ℕ
 
-abbrev pub ranLeaves : Outcome → List ℕ → RanLeft
-ranLeaves o p = record { scan = o; picture = p }
+abbrev pub runLeaves : ℕ → List ℕ → List ℕ → List ℕ → RunLeft
+runLeaves n scan picture taken = record { refusal = n; scan = scan; picture = picture; taken = taken }
 
--- what a run of a state leaves
-unfoldable pub runOn : State → Lent → ℕ → List ℕ → List ℕ → RanLeft
-runOn s l n picture scan =
-    ranLeaves (outcomeOn (run s l n picture .answer) scan (λ t. leaves 0 (putRun (t .count) (t .next) scan)))
-    (run s l n picture .left)
+-- the next state, the colours of the clocks taken and their count where it is accepted; all as it was where it is refused
+unfoldable pub runLeft : Lent → List ℕ → List ℕ → List ℕ → Answer Taken → RunLeft
+runLeft l scan picture taken (accepted t) =
+    runLeaves 0 (putState (t .next) scan) (drawn (t .count) (stateOf scan) l picture) (set taken 0 (t .count))
+runLeft l scan picture taken (refused m) = runLeaves m scan picture taken
 
--- of the state that the slice gives; where it gives none, slice and picture stay
-unfoldable pub runLoaded : Answer State → Lent → ℕ → List ℕ → List ℕ → RanLeft
-runLoaded (accepted s) l n picture scan = runOn s l n picture scan
-runLoaded (refused m) l n picture scan = ranLeaves (leaves m scan) picture
-
-unfoldable pub runScan : List ℕ → List ℕ → List ℕ → ℕ → List ℕ → RanLeft
-runScan scan memory palette n picture = runLoaded (loadScan scan) (lending memory palette) n picture scan
+-- of the state that the slice gives
+unfoldable pub runScan : List ℕ → List ℕ → List ℕ → ℕ → List ℕ → List ℕ → RunLeft
+runScan scan memory palette n picture taken =
+    runLeft (lending memory palette) scan picture taken
+    (andThen (loadScan scan) (λ s. runOn s (lending memory palette) n picture taken))
 
 -- ---- viewport change
 

@@ -1,14 +1,21 @@
-// A scan whose state is one lent slice (document 01, "Clocks and lines") of 18 entries: 0 to 8 the nine words in force, 9 the window
-// start, 10 and 11 the pending LCDSADDR1 and LCDSADDR2, 12 the position; 13 to 16 VSYNC, HSYNC, VDEN and VD of the last step; 17 how
-// many clocks the last step or run took. Further entries stay. 0 is done, any other answer the number of the refusal, and then nothing
-// lent is changed.
+// A scan whose state is a lent slice (document 01, "Clocks and lines") of 13 entries: 0 to 8 the nine words in force, 9 the window
+// start, 10 and 11 the pending LCDSADDR1 and LCDSADDR2, 12 the position. Further entries stay. A step's levels and a run's count go to
+// slices of their own. 0 is done, any other answer the number of the refusal, and then nothing lent is changed.
+ghost use mathlib.Core.Bool.{true};
 ghost use mathlib.Core.Path.{_≡_};
-ghost use Prim.Native.Nat.{_<_, _≤_};
-ghost use lib.ListN.{length};
-ghost use Rattle.laws.specs.Answers.{leaves};
-ghost use Rattle.scanout.specs.Core.{lending};
-ghost use Rattle.scans.specs.Scan.{stateOf, putState, putStarted, putStep, putRun, startScan, stepOn, stepScan, changeOn, changeScan, ranLeaves, runOn, runScan};
+ghost use Prim.Native.Nat.{_≤_};
+ghost use lib.ListN.{length, getD};
+ghost use Rattle.laws.specs.Answers.{judgedOn, leaves};
+ghost use Rattle.laws.specs.Storing.{stores};
+ghost use Rattle.scanout.specs.Calls.{step, run};
+ghost use Rattle.drawing.specs.Colour.{lending};
+ghost use Rattle.scanout.specs.Refusals.{judgeScan};
+ghost use Rattle.scans.specs.Scan.{stateOf, putState, loadScan, putStarted, startScan, changeOn, changeScan};
+ghost use Rattle.scans.specs.Scan.{putLevels, stepLeaves, stepLeft, stepScan};
+ghost use Rattle.scans.specs.Scan.{runLeaves, runLeft, runScan};
+use memory::Screen;
 use registers::Words;
+use scanout::refusals::judge_scan;
 use scanout::run::Ran;
 use scanout::run::run;
 use scanout::start::Started;
@@ -24,7 +31,7 @@ use signals::clock::Clock;
 // ---- the state in its slice
 
 fn state_of(scan: &[u32]) -> State
-    requires { ⌜ 18 ≤ length (now scan) ⌝ }
+    requires { ⌜ 13 ≤ length (now scan) ⌝ }
     ensures { λ r. ⌜ r ≡ stateOf (now (scan .entry)) ⌝ }
 {
     let words = Words {
@@ -42,31 +49,49 @@ fn state_of(scan: &[u32]) -> State
         lcdsaddr1: scan[10],
         lcdsaddr2: scan[11],
     };
-    State {
+    let screen = Screen {
         words,
         window_start: scan[9],
+    };
+    State {
+        screen,
         pending,
         position: scan[12],
     }
 }
 
+// The first entries of a slice become those given; the others stay.
+fn store_entries(entries: &[u32], slice: &mut [u32])
+    requires { ⌜ length (now entries) ≤ length (now slice) ⌝ }
+    ensures { λ _. ⌜ now (slice .exit) ≡ stores (λ i. getD (now (entries .entry)) i 0) 0 (length (now (entries .entry))) (now (slice .entry)) ⌝ }
+{
+    let mut i = 0;
+    while i < entries.len() {
+        slice[i] = entries[i];
+        i += 1;
+    }
+}
+
 fn put_state(s: State, scan: &mut [u32])
-    requires { ⌜ 18 ≤ length (now scan) ⌝ }
+    requires { ⌜ 13 ≤ length (now scan) ⌝ }
     ensures { λ _. ⌜ now (scan .exit) ≡ putState s (now (scan .entry)) ⌝ }
 {
-    scan[0] = s.words.lcdcon1;
-    scan[1] = s.words.lcdcon2;
-    scan[2] = s.words.lcdcon3;
-    scan[3] = s.words.lcdcon4;
-    scan[4] = s.words.lcdcon5;
-    scan[5] = s.words.lcdsaddr1;
-    scan[6] = s.words.lcdsaddr2;
-    scan[7] = s.words.lcdsaddr3;
-    scan[8] = s.words.tpal;
-    scan[9] = s.window_start;
-    scan[10] = s.pending.lcdsaddr1;
-    scan[11] = s.pending.lcdsaddr2;
-    scan[12] = s.position;
+    let entries = [
+        s.screen.words.lcdcon1,
+        s.screen.words.lcdcon2,
+        s.screen.words.lcdcon3,
+        s.screen.words.lcdcon4,
+        s.screen.words.lcdcon5,
+        s.screen.words.lcdsaddr1,
+        s.screen.words.lcdsaddr2,
+        s.screen.words.lcdsaddr3,
+        s.screen.words.tpal,
+        s.screen.window_start,
+        s.pending.lcdsaddr1,
+        s.pending.lcdsaddr2,
+        s.position,
+    ];
+    store_entries(&entries, scan);
 }
 
 // ---- a start
@@ -74,15 +99,14 @@ fn put_state(s: State, scan: &mut [u32])
 fn put_started(s: State, scan: &mut [u32]) -> u32
     ensures { λ r. ⌜ leaves r (now (scan .exit)) ≡ putStarted s (now (scan .entry)) ⌝ }
 {
-    if scan.len() < 18 {
+    if scan.len() < 13 {
         return 10;
     }
     put_state(s, scan);
     0
 }
 
-// Starts a scan: entries 0 to 12 of `scan`. 10 for a slice short of nine words, then 1 to 8, 9, 10 where `scan` has fewer than 18
-// entries.
+// Starts a scan: its state to `scan`. 10 for a slice short of nine words, then 1 to 8, 9, 10 where `scan` has fewer than 13 entries.
 pub fn start_scan(words: &[u32], window_start: u32, video: &[u32], scan: &mut [u32]) -> u32
     ensures { λ r. ⌜ leaves r (now (scan .exit)) ≡ startScan (now (words .entry)) «window_start» (now (video .entry)) (now (scan .entry)) ⌝ }
 {
@@ -94,51 +118,55 @@ pub fn start_scan(words: &[u32], window_start: u32, video: &[u32], scan: &mut [u
 
 // ---- a step
 
-fn put_step(k: Clock, s: State, scan: &mut [u32]) -> u32
-    requires { ⌜ 18 ≤ length (now scan) ⌝ }
-    ensures { λ r. ⌜ leaves r (now (scan .exit)) ≡ leaves 0 (putStep k s (now (scan .entry))) ⌝ }
+// What a step or run is judged by that lacks room for what it gives: 10 where no lower number applies.
+fn judge_short(scan: &[u32], video: &[u32], palette: &[u16]) -> u32
+    ensures { λ r. ⌜ r ≡ judgedOn (loadScan (now (scan .entry))) (λ s. judgeScan s (length (now (video .entry))) (length (now (palette .entry))) true) ⌝ }
 {
-    put_state(s, scan);
-    scan[13] = k.vsync;
-    scan[14] = k.hsync;
-    scan[15] = k.vden;
-    scan[16] = k.vd;
-    scan[17] = 1;
-    0
+    if scan.len() < 13 {
+        return 10;
+    }
+    judge_scan(state_of(scan), video.len(), palette.len(), true)
 }
 
-fn step_on(s: State, video: &[u32], palette: &[u16], scan: &mut [u32]) -> u32
-    requires { ⌜ 18 ≤ length (now scan) ⌝ }
-    ensures { λ r. ⌜ leaves r (now (scan .exit)) ≡ stepOn s (lending (now (video .entry)) (now (palette .entry))) (now (scan .entry)) ⌝ }
+fn put_levels(k: Clock, clock: &mut [u32])
+    requires { ⌜ 4 ≤ length (now clock) ⌝ }
+    ensures { λ _. ⌜ now (clock .exit) ≡ putLevels k (now (clock .entry)) ⌝ }
+{
+    let levels = [k.vsync, k.hsync, k.vden, k.vd];
+    store_entries(&levels, clock);
+}
+
+fn step_on(s: State, video: &[u32], palette: &[u16], scan: &mut [u32], clock: &mut [u32]) -> u32
+    requires { ⌜ (13 ≤ length (now scan)) × (4 ≤ length (now clock)) ⌝ }
+    ensures { λ r. ⌜ stepLeaves r (now (scan .exit)) (now (clock .exit)) ≡ stepLeft (now (scan .entry)) (now (clock .entry)) (step s (lending (now (video .entry)) (now (palette .entry)))) ⌝ }
 {
     match step(s, video, palette) {
-        Stepped::Done(k, t) => put_step(k, t, scan),
+        Stepped::Done(k, t) => {
+            put_state(t, scan);
+            put_levels(k, clock);
+            0
+        }
         Stepped::Refused(n) => n,
     }
 }
 
-// One clock: the next state to entries 0 to 12, its levels to 13 to 16, and 1 to 17. 10 where `scan` has fewer than 18 entries, then
-// 1 to 8 of the viewport in force and of the pending one, 9, 10 for a palette that has not 256 entries, 13, 15.
-pub fn step_scan(scan: &mut [u32], video: &[u32], palette: &[u16]) -> u32
-    ensures { λ r. ⌜ leaves r (now (scan .exit)) ≡ stepScan (now (scan .entry)) (now (video .entry)) (now (palette .entry)) ⌝ }
+// One clock: the next state to `scan`; VSYNC, HSYNC, VDEN and VD to entries 0 to 3 of `clock`. 10 where `scan` has fewer than 13
+// entries, then 1 to 8 of the viewport in force and of the pending one, 9, 10 for a palette that has not 256 entries or a `clock` of
+// fewer than 4, 13, 15.
+pub fn step_scan(scan: &mut [u32], video: &[u32], palette: &[u16], clock: &mut [u32]) -> u32
+    ensures { λ r. ⌜ stepLeaves r (now (scan .exit)) (now (clock .exit)) ≡ stepScan (now (scan .entry)) (now (video .entry)) (now (palette .entry)) (now (clock .entry)) ⌝ }
 {
-    if scan.len() < 18 {
+    if clock.len() < 4 {
+        return judge_short(scan, video, palette);
+    }
+    if scan.len() < 13 {
         return 10;
     }
     let s = state_of(scan);
-    step_on(s, video, palette, scan)
+    step_on(s, video, palette, scan, clock)
 }
 
 // ---- a run
-
-fn put_run(count: u64, s: State, scan: &mut [u32]) -> u32
-    requires { ⌜ (18 ≤ length (now scan)) × (count < 4294967296) ⌝ }
-    ensures { λ r. ⌜ leaves r (now (scan .exit)) ≡ leaves 0 (putRun count s (now (scan .entry))) ⌝ }
-{
-    put_state(s, scan);
-    scan[17] = count as u32;
-    0
-}
 
 fn run_on(
     s: State,
@@ -147,61 +175,65 @@ fn run_on(
     clocks: u64,
     picture: &mut [u32],
     scan: &mut [u32],
+    taken: &mut [u32],
 ) -> u32
-    requires { ⌜ 18 ≤ length (now scan) ⌝ }
-    ensures { λ r. ⌜ ranLeaves (leaves r (now (scan .exit))) (now (picture .exit)) ≡ runOn s (lending (now (video .entry)) (now (palette .entry))) clocks (now (picture .entry)) (now (scan .entry)) ⌝ }
+    requires { ⌜ (13 ≤ length (now scan)) × (1 ≤ length (now taken)) × (s ≡ stateOf (now scan)) ⌝ }
+    ensures { λ r. ⌜ runLeaves r (now (scan .exit)) (now (picture .exit)) (now (taken .exit)) ≡ runLeft (lending (now (video .entry)) (now (palette .entry))) (now (scan .entry)) (now (picture .entry)) (now (taken .entry)) (run s (lending (now (video .entry)) (now (palette .entry))) clocks (now (picture .entry)) .answer) ⌝ }
 {
     match run(s, video, palette, clocks, picture) {
-        Ran::Took(n, t) => put_run(n, t, scan),
+        Ran::Took(n, t) => {
+            put_state(t, scan);
+            taken[0] = n as u32;
+            0
+        }
         Ran::Refused(n) => n,
     }
 }
 
-// Up to a number of clocks, to the frame's end at most: the next state to entries 0 to 12, and to 17 how many it took; the colours of
-// its active clocks to their entries of `picture`. 10 where `scan` has fewer than 18 entries, then 1 to 8 of the viewport in force and
-// of the pending one, 9, 10 for a palette that has not 256 entries or a picture shorter than W x H, 13, 15.
+// Up to a number of clocks, to the frame's end at most: the next state to `scan`, how many it took to entry 0 of `taken`, and the
+// colours of its active clocks to their entries of `picture`. 10 where `scan` has fewer than 13 entries, then 1 to 8 of the viewport in
+// force and of the pending one, 9, 10 for a palette that has not 256 entries, a picture shorter than W x H or an empty `taken`, 13, 15.
 pub fn run_scan(
     scan: &mut [u32],
     video: &[u32],
     palette: &[u16],
     clocks: u64,
     picture: &mut [u32],
+    taken: &mut [u32],
 ) -> u32
-    ensures { λ r. ⌜ ranLeaves (leaves r (now (scan .exit))) (now (picture .exit)) ≡ runScan (now (scan .entry)) (now (video .entry)) (now (palette .entry)) clocks (now (picture .entry)) ⌝ }
+    ensures { λ r. ⌜ runLeaves r (now (scan .exit)) (now (picture .exit)) (now (taken .exit)) ≡ runScan (now (scan .entry)) (now (video .entry)) (now (palette .entry)) clocks (now (picture .entry)) (now (taken .entry)) ⌝ }
 {
-    if scan.len() < 18 {
+    if taken.len() < 1 {
+        return judge_short(scan, video, palette);
+    }
+    if scan.len() < 13 {
         return 10;
     }
     let s = state_of(scan);
-    run_on(s, video, palette, clocks, picture, scan)
+    run_on(s, video, palette, clocks, picture, scan, taken)
 }
 
 // ---- a change of the viewport
 
-fn put_changed(s: State, scan: &mut [u32]) -> u32
-    requires { ⌜ 18 ≤ length (now scan) ⌝ }
-    ensures { λ r. ⌜ leaves r (now (scan .exit)) ≡ leaves 0 (putState s (now (scan .entry))) ⌝ }
-{
-    put_state(s, scan);
-    0
-}
-
 fn change_on(s: State, video: &[u32], v: Viewport, scan: &mut [u32]) -> u32
-    requires { ⌜ 18 ≤ length (now scan) ⌝ }
+    requires { ⌜ 13 ≤ length (now scan) ⌝ }
     ensures { λ r. ⌜ leaves r (now (scan .exit)) ≡ changeOn s (now (video .entry)) v (now (scan .entry)) ⌝ }
 {
     match change_viewport(s, video, v) {
-        Changed::Pending(t) => put_changed(t, scan),
+        Changed::Pending(t) => {
+            put_state(t, scan);
+            0
+        }
         Changed::Refused(n) => n,
     }
 }
 
-// Brings a new LCDSADDR1 and LCDSADDR2, which wait for the next frame. 10 where `scan` has fewer than 18 entries, then 1 to 8 of the
+// Brings a new LCDSADDR1 and LCDSADDR2, which wait for the next frame. 10 where `scan` has fewer than 13 entries, then 1 to 8 of the
 // viewport in force, the pending one and the new one, 9, 13, 15.
 pub fn change_scan(scan: &mut [u32], video: &[u32], lcdsaddr1: u32, lcdsaddr2: u32) -> u32
     ensures { λ r. ⌜ leaves r (now (scan .exit)) ≡ changeScan (now (scan .entry)) (now (video .entry)) lcdsaddr1 lcdsaddr2 ⌝ }
 {
-    if scan.len() < 18 {
+    if scan.len() < 13 {
         return 10;
     }
     let s = state_of(scan);

@@ -9,10 +9,10 @@ use Rattle.bench.proofs.print_rows.Statement.{statement}
 use Rattle.bench.proofs.print_rows.Tie as tie
 
 abbrev Inv-loop : tie.InvT-loop
-Inv-loop w window-start video palette row₀ wide high r₀ row r = (r ≤ high) × (length row ≡ length row₀)
+Inv-loop s video palette row₀ wide high r₀ row r = (r ≤ high) × (length row ≡ length row₀)
 
 abbrev μ-loop : tie.MeasureT-loop
-μ-loop w window-start video palette row₀ wide high r₀ row r = high - r
+μ-loop s video palette row₀ wide high r₀ row r = high - r
 
 pub print-rows-spec : {M : Type 1} → statement M
 print-rows-spec =

@@ -40,7 +40,7 @@ use denote.Triple.Spec.{Meets, tripleOf}
 use denote.Triple.Table.{entered, cited}
 use denote.Triple.Walked.{says, Stays, stay-ref, walkOf, goes-ref, ends-at}
 use Rattle.laws.specs.WalkLaws.{no-requires, copied, freed, told, givenUp, all-go, meets}
-use Rattle.scanout.specs.Core.{lending}
+use Rattle.drawing.specs.Colour.{lending}
 use Rattle.scanout.specs.declared.state.State.{State}
 use Rattle.scanout.proofs.state.State as T
 use Rattle.scanout.proofs.state.State.Laws as T′

@@ -43,7 +43,7 @@ use denote.Triple.Table.{entered, cited}
 use denote.Triple.Walked.{says, Stays, walkOf}
 use denote.Triple.Clauses.{ensured, lasts}
 use Rattle.laws.specs.WalkLaws.{no-requires, copied, freed, givenUp, all-go, ends-in, meets}
-use Rattle.scanout.specs.Core.{lending}
+use Rattle.drawing.specs.Colour.{lending}
 use Rattle.scanout.specs.declared.state.State.{State}
 use Rattle.scanout.proofs.state.State as T
 use Rattle.scanout.proofs.state.State.Laws as T′

@@ -13,7 +13,7 @@ returns c =
     let nine = c .before .before .w .given in
     judges-on _ _ (nine .0 .0) _
     (sym (ap loaded (nine .1)) ∙ c .before .before .before .before .load .ensures)
-    (c .judge-memory .ensures)
+    (c .check-words .ensures)
 
 returns-2 : tie.Need-returns-2
 unfolding check

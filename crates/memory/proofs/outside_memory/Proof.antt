@@ -7,47 +7,53 @@ use Rattle.memory.proofs.Window.{row-address-le, outside-early, outside
 use Rattle.memory.proofs.outside_memory.Statement.{statement}
 use Rattle.memory.proofs.outside_memory.Tie as tie
 
+abbrev first : tie.After-pagewidth → tie.After-row-address
+first c = c .before .before .before
+
+abbrev start : tie.After-pagewidth → tie.Start
+start c = first c .before .before
+
 add-end : tie.Need-add-end
 add-end c =
-    let start = c .before .before .before .before in
     omega (
       arith,
       c .before .row-address2 .ensures,
-      row-address-le (start .args .w) (c .before .before .height .result - 1) 1023 (omega arith),
+      row-address-le (start c .args .s .words) (c .before .before .height .result - 1) 1023 (omega arith),
     )
 
 returns : tie.Need-returns
 returns c =
-    let start = c .before .before .before .before .before in
-    outside-early (start .args .w) (accepted-words (start .args .w) (start .pre)) (start .args .window-start) (start .args .lent)
-    (rw (← c .before .before .before .before .row-address .ensures) (c .if1 .taken))
+    let s = start (c .before) .args .s in
+    outside-early (s .words) (accepted-words (s .words) (start (c .before) .pre)) (s .«window_start») (start (c .before) .args .lent)
+    (rw (← first (c .before) .row-address .ensures) (c .if1 .taken))
 
 sub-result : tie.Need-sub-result
 sub-result c =
-    let start = c .before .before .before .before .before in
+    let s = start (c .before) .args .s in
     omega (
       arith,
       c .before .before .row-address2 .ensures,
-      rows-rise (start .args .w) 0 (c .before .before .before .height .result - 1) (omega arith),
-      start-before (start .args .w) (accepted-words (start .args .w) (start .pre)) (start .args .window-start) (start .args .lent)
-          (rw (← c .before .before .before .before .row-address .ensures) (c .if1 .left)),
+      rows-rise (s .words) 0 (c .before .before .before .height .result - 1) (omega arith),
+      start-before (s .words) (accepted-words (s .words) (start (c .before) .pre)) (s .«window_start») (start (c .before) .args .lent)
+          (rw (← first (c .before) .row-address .ensures) (c .if1 .left)),
     )
 
 returns-2 : tie.Need-returns-2
 returns-2 c =
-    let start = c .before .before .before .before .before in
+    let s = start (c .before) .args .s in
     rw (
       c .before .before .row-address2 .ensures,
       c .before .before .before .height .ensures,
       c .before .pagewidth .ensures,
     )
-    (outside-late (start .args .w) (accepted-words (start .args .w) (start .pre)) (start .args .window-start) (start .args .lent)
-    (rw (← c .before .before .before .before .row-address .ensures) (c .if1 .left)))
+    (outside-late (s .words) (accepted-words (s .words) (start (c .before) .pre)) (s .«window_start») (start (c .before) .args .lent)
+    (rw (← first (c .before) .row-address .ensures) (c .if1 .left)))
 
 pub outside-memory-spec : {M : Type 1} → statement M
 outside-memory-spec =
     tie.close
     (tie.spec
+    (λ c. search needs)
     (λ c κs. tt)
     (λ c κs. tt)
     (λ c. search needs)

@@ -17,7 +17,7 @@ use ghost.Atoms.{Atoms, sem}
 use contract.Lifetimes.{Lfts, Shares}
 use contract.Monad.{Fun}
 use contract.Running.{givenOf, tables, tablesOf}
-use types.Kit.{Given, ‵, raw, _⊛_, ⋆, _$_, _∵_, !, qed, by, move, use1, split, split3, join, group, fsplit, fsplit3, fjoin, fjoin3, frame, done}
+use types.Kit.{Given, ‵, raw, _⊛_, ⋆, _$_, _∵_, !, qed, by, move, use1, split, split3, join, group, fsplit3, fjoin, frame, done}
 use types.Run.{look, init, stop, from, and-then, no-more, land, returns, enter, alloc1, alloc0, params1, pass1, pass0, free0}
 use sound.WpLaws.{FmC, fmOf}
 use denote.RattleType.{RattleType, owns}
@@ -35,10 +35,11 @@ use denote.Triple.Entry.{Args, Vals, alive, onEntry}
 use denote.Triple.Spec.{Meets, tripleOf}
 use denote.Triple.Table.{entered, cited}
 use denote.Triple.Walked.{Stays, walkOf}
-use Rattle.registers.specs.declared.Words.{Words}
-use Rattle.registers.proofs.Words as N
-use Rattle.registers.proofs.Words.Laws as N′
-use Rattle.drawing.specs.Drawing.{drawn, drawPixel}
+use Rattle.memory.specs.declared.Screen.{Screen}
+use Rattle.memory.proofs.Screen as N
+use Rattle.memory.proofs.Screen.Laws as N′
+use Rattle.drawing.specs.Colour.{lending}
+use Rattle.drawing.specs.Drawing.{drawnPixel, drawPixel}
 use Rattle.drawing.specs.declared.pixel.Drawn.{Drawn}
 use Rattle.drawing.proofs.pixel.Drawn as S
 use Rattle.drawing.proofs.pixel.Drawn.Laws as S′
@@ -72,7 +73,7 @@ module _ {M : Type 1} (𝓤 : URA M) (H : Heap 𝓤) (A : Atoms 𝓤) (mem : Mem
   Pixel = tripleOf 𝓤 H A pixel.signature (pixel.spec 𝓤 H A mem run)
 
 module _ {M : Type 1} (𝓤 : URA M) (H : Heap 𝓤) (A : Atoms 𝓤) (W : Given 𝓤 H A) (mem : Memory → SProp 𝓤) (run : Routine → Fun 𝓤)
-    (κ κ′ : Lft) (q q′ : Share) (w : Words) (n : ℕ) (s p : RefT (List ℕ)) (r c : ℕ) where
+    (κ κ′ : Lft) (q q′ : Share) (w : Screen) (s p : RefT (List ℕ)) (r c : ℕ) where
   abbrev κs : Lfts 2
   κs = (κ, (κ′, tt))
 
@@ -88,10 +89,10 @@ module _ {M : Type 1} (𝓤 : URA M) (H : Heap 𝓤) (A : Atoms 𝓤) (W : Given
 
   -- the arguments, and their machine values
   abbrev x : Args read.signature κs
-  x = (w, (n, (s, (p, (r, (c, tt))))))
+  x = (w, (s, (p, (r, (c, tt)))))
 
   abbrev at : Vals read.signature κs
-  at = (N′.lowered w ∷ [], (vint w32 n ∷ [], (v ∷ [], (v′ ∷ [], (vint w32 r ∷ [], (vint w32 c ∷ [], tt))))))
+  at = (N′.lowered w ∷ [], (v ∷ [], (v′ ∷ [], (vint w32 r ∷ [], (vint w32 c ∷ [], tt)))))
 
   abbrev Post : Val → SProp 𝓤
   Post = walkOf 𝓤 H A read.ended stayed (read.clauses 𝓤 H A mem run) .post ((κs, qs, tt, x, at), tt)
@@ -110,24 +111,24 @@ module _ {M : Type 1} (𝓤 : URA M) (H : Heap 𝓤) (A : Atoms 𝓤) (W : Given
 
   -- ---- the call of `new`: what it is passed, what it asks, and what is known of its result
   abbrev to-new : New 𝓤 H A mem run .Ghost
-  to-new = (((κ, tt), (q, tt), tt, (w, (n, (s, tt))), (N′.lowered w ∷ [], (vint w32 n ∷ [], (v ∷ [], tt)))), tt)
+  to-new = (((κ, tt), (q, tt), tt, (w, (s, tt)), (N′.lowered w ∷ [], (v ∷ [], tt))), tt)
 
   goes-new : ent 𝓤 (onEntry 𝓤 H A read.signature κs qs x at)
       (sep 𝓤 (New 𝓤 H A mem run .pre to-new) (sep 𝓤 (sem 𝓤 H A (flft κ′ q′)) (sem 𝓤 H A Last)))
   goes-new =
       qed W
       ((‵ (flft κ q) ⊛ ‵ (flft κ′ q′) ⊛ ‵ ftrue)
-      ∷ ‵ (owns (N.the-row ∷ u32 ∷ ShrSlice (named 0) κ u32 ∷ ShrSlice (named 1) κ′ u16 ∷ u32 ∷ u32 ∷ []) x at)
+      ∷ ‵ (owns (N.the-row ∷ ShrSlice (named 0) κ u32 ∷ ShrSlice (named 1) κ′ u16 ∷ u32 ∷ u32 ∷ []) x at)
       ∷ []) ∵
-      move ! (1 ∷ []) $ fsplit3 ! $ move ! (2 ∷ []) $ fsplit ! $
-      -- [what video owns; the last three; words; window_start; the tokens]
-      nothing ! $ move ! (1 ∷ 0 ∷ []) $ fjoin ! $ move ! (2 ∷ 3 ∷ 0 ∷ []) $ fjoin3 ! $ move ! (2 ∷ []) $ split3 ! $
-      -- [κ's token; κ′'s token; true; what the first three own; the last three]
+      move ! (1 ∷ []) $ fsplit3 ! $
+      -- [the screen; what video owns; the last three; the tokens]
+      nothing ! $ move ! (2 ∷ 0 ∷ []) $ fjoin ! $ move ! (1 ∷ 0 ∷ []) $ fjoin ! $ move ! (2 ∷ []) $ split3 ! $
+      -- [κ's token; κ′'s token; true; what the first two own; the last three]
       move ! (0 ∷ 2 ∷ []) $ join ! $ move ! (0 ∷ 2 ∷ []) $ join ! $
       use1 W (raw (New 𝓤 H A mem run .pre to-new)) (no-requires 𝓤 _) $ frame ! $ done !
 
   abbrev held : Reader → Type 0
-  held d = d ≡ readerOf w n s
+  held d = d ≡ readerOf w s
 
   -- ---- the call of `pixel`, at the struct d with the machine value u
   abbrev to-pixel : Reader → Val → Pixel 𝓤 H A mem run .Ghost
@@ -143,46 +144,46 @@ module _ {M : Type 1} (𝓤 : URA M) (H : Heap 𝓤) (A : Atoms 𝓤) (W : Given
       move ! (3 ∷ 1 ∷ []) $ join ! $ move ! (1 ∷ 0 ∷ []) $ join ! $ join ! $ frame ! $ done !
 
   abbrev looked : Reader → Drawn → Type 0
-  looked d t = drawn t ≡ lookUp d (now p) r c
+  looked d t = drawnPixel t ≡ lookUp d (now p) r c
 
   module _ (C : Calls 𝓤 H) (Λ : Loops 𝓤 H) (fm : FmC 𝓤 H (W .laws) C) (known-new : Triple 𝓤 (C #reader·new) (New 𝓤 H A mem run))
       (known-pixel : Triple 𝓤 (C #reader·pixel) (Pixel 𝓤 H A mem run)) where
-    walk : Is N.the-row w (N′.lowered w ∷ []) → Is u32 n (vint w32 n ∷ []) → Is (ShrSlice (named 0) κ u32) s (v ∷ [])
+    walk : Is N.the-row w (N′.lowered w ∷ []) → Is (ShrSlice (named 0) κ u32) s (v ∷ [])
         → Is (ShrSlice (named 1) κ′ u16) p (v′ ∷ []) → Is u32 r (vint w32 r ∷ []) → Is u32 c (vint w32 c ∷ [])
         → ent 𝓤 (onEntry 𝓤 H A read.signature κs qs x at)
-        (WpFn 𝓤 H C Λ code.function (N′.lowered w ∷ vint w32 n ∷ v ∷ v′ ∷ vint w32 r ∷ vint w32 c ∷ []) Post)
-    walk iw ik is ip ir ic =
+        (WpFn 𝓤 H C Λ code.function (N′.lowered w ∷ v ∷ v′ ∷ vint w32 r ∷ vint w32 c ∷ []) Post)
+    walk iw is ip ir ic =
         qed W (raw (onEntry 𝓤 H A read.signature κs qs x at) ∷ []) ∵
-        enter ! C Λ code.function (N′.lowered w ∷ vint w32 n ∷ v ∷ v′ ∷ vint w32 r ∷ vint w32 c ∷ []) _ $
-        alloc1 ! (λ l₀. alloc1 ! (λ l₁. alloc1 ! (λ l₂. alloc1 ! (λ l₃. alloc1 ! (λ l₄. alloc1 ! (λ l₅. alloc1 ! (λ l₆. alloc1 ! (λ l₇.
+        enter ! C Λ code.function (N′.lowered w ∷ v ∷ v′ ∷ vint w32 r ∷ vint w32 c ∷ []) _ $
+        alloc1 ! (λ l₀. alloc1 ! (λ l₁. alloc1 ! (λ l₂. alloc1 ! (λ l₃. alloc1 ! (λ l₄. alloc1 ! (λ l₅. alloc1 ! (λ l₆.
         alloc0 ! $ params1 ! $
-        pass1 ! (init ! 12 refl (LL.lawful N.the-type N′.the-laws 𝓤 H A W .typed w _ iw .0)) $
-        pass1 ! (init ! 10 refl (uint-lawful 𝓤 H A W w32 .typed n _ ik .0)) $
+        pass1 ! (init ! 10 refl (LL.lawful N.the-type N′.the-laws 𝓤 H A W .typed w _ iw .0)) $
         pass1 ! (init ! 8 refl (shr-slice-lawful 𝓤 H A W (named 0) κ u32 .typed s _ is .0)) $
         pass1 ! (init ! 6 refl (shr-slice-lawful 𝓤 H A W (named 1) κ′ u16 .typed p _ ip .0)) $
         pass1 ! (init ! 4 refl (uint-lawful 𝓤 H A W w32 .typed r _ ir .0)) $
         pass1 ! (init ! 2 refl (uint-lawful 𝓤 H A W w32 .typed c _ ic .0)) $ pass0 ! $
-        move ! (16 ∷ []) $ use1 W (raw (New 𝓤 H A mem run .pre to-new) ⊛ ‵ (flft κ′ q′) ⊛ ‵ Last) goes-new $ split3 ! $
-        -- [what `new` asks; κ′'s token; what the last three own; room for _7; …; _6; …; _1; …; room for _0; …]
+        move ! (14 ∷ []) $ use1 W (raw (New 𝓤 H A mem run .pre to-new) ⊛ ‵ (flft κ′ q′) ⊛ ‵ Last) goes-new $ split3 ! $
+        -- [what `new` asks; κ′'s token; what the last three own; room for _6; …; _5; …; _1; …; room for _0; …]
         told ! fm new.ended (new.clauses 𝓤 H A mem run) known-new to-new
-        (and-then ! (copied ! 15 refl) (and-then ! (copied ! 13 refl) (and-then ! (copied ! 11 refl) (no-more !)))) held (λ d ws. refl) (λ u d e.
-        -- [what the struct owns; κ's token; κ′'s token; what the last three own; room for _7; …]
+        (and-then ! (copied ! 13 refl) (and-then ! (copied ! 11 refl) (no-more !))) held (λ d ws. refl) (λ u d e.
+        -- [what the struct owns; κ's token; κ′'s token; what the last three own; room for _6; …]
         peeks ! B (Is B) (shows 𝓤 H A B) d (u ∷ []) (λ id.
         land ! (from ! (stop !)) (init ! 4 refl (LL.lawful (T.the-type αᵉ) (T′.the-laws αᵉ) 𝓤 H A W .typed d _ id .0)) $
         group ! 4 $ use1 W (raw (Pixel 𝓤 H A mem run .pre (to-pixel d u))) (goes-pixel d u) $
-        -- [what `pixel` asks; _7; …; _6; …; _1; …; room for _0; …]
+        -- [what `pixel` asks; _6; …; _5; …; _1; …; room for _0; …]
         told ! fm pixel.ended (pixel.clauses 𝓤 H A mem run) known-pixel (to-pixel d u)
-        (and-then ! (copied ! 1 refl) (and-then ! (copied ! 7 refl) (and-then ! (copied ! 5 refl) (and-then ! (copied ! 3 refl) (no-more !)))))
+        (and-then ! (copied ! 1 refl) (and-then ! (copied ! 7 refl)
+        (and-then ! (copied ! 5 refl) (and-then ! (copied ! 3 refl) (no-more !)))))
         (looked d) (λ t ws. refl) (λ u′ t e′.
-        -- [the result; the tokens; _7; …; room for _0; …]
+        -- [the result; the tokens; _6; …; room for _0; …]
         peeks ! S.the-row (Is S.the-row) (shows 𝓤 H A S.the-row) t (u′ ∷ []) (λ it.
-        land ! (from ! (stop !)) (init ! 16 refl (EL.lawful S.the-type S′.the-laws 𝓤 H A W tt .typed t _ it .0)) $
-        returns ! (look ! 16 refl) $
-        freed ! 16 refl refl $ freed ! 14 refl refl $ freed ! 12 refl refl $ freed ! 10 refl refl $
+        land ! (from ! (stop !)) (init ! 14 refl (EL.lawful S.the-type S′.the-laws 𝓤 H A W tt .typed t _ it .0)) $
+        returns ! (look ! 14 refl) $
+        freed ! 14 refl refl $ freed ! 12 refl refl $ freed ! 10 refl refl $
         freed ! 8 refl refl $ freed ! 6 refl refl $ freed ! 4 refl refl $ freed ! 2 refl refl $ free0 ! $
         by !
-        (ends-told 𝓤 H A W read.ended (read.clauses 𝓤 H A mem run) ((κs, qs, tt, x, at), tt) u′ t (tt, (tt, (tt, (tt, (tt, (tt, tt))))))
-        (drawn t ≡ drawPixel w n (now s) (now p) r c) refl (e′ ∙ ap (λ (b : Reader). lookUp b (now p) r c) e))))))))))))))
+        (ends-told 𝓤 H A W read.ended (read.clauses 𝓤 H A mem run) ((κs, qs, tt, x, at), tt) u′ t (tt, (tt, (tt, (tt, (tt, tt)))))
+        (drawnPixel t ≡ drawPixel w (lending (now s) (now p)) r c) refl (e′ ∙ ap (λ (b : Reader). lookUp b (now p) r c) e)))))))))))))
 
 read-meets : {M : Type 1} (𝓤 : URA M) (H : Heap 𝓤) (A : Atoms 𝓤) (W : Given 𝓤 H A)
     (mem : Memory → SProp 𝓤) (run : Routine → Fun 𝓤) (𝓣 : Tables 𝓤 H)
@@ -191,20 +192,17 @@ read-meets : {M : Type 1} (𝓤 : URA M) (H : Heap 𝓤) (A : Atoms 𝓤) (W : G
 read-meets 𝓤 H A W mem run 𝓣 known-new known-pixel =
     meets 𝓤 H A W read.ended (read.clauses 𝓤 H A mem run) stayed
     (all-go 𝓤 H A W (read.signature .params) (read.ended .kept)
-    ((λ κs x f. refl), ((λ κs x f. refl), ((λ κs x f. refl), ((λ κs x f. refl), ((λ κs x f. refl), ((λ κs x f. refl), tt)))))))
+    ((λ κs x f. refl), ((λ κs x f. refl), ((λ κs x f. refl), ((λ κs x f. refl), ((λ κs x f. refl), tt))))))
     𝓣 code.function
-    (λ κs. (LL.vals N.the-type N′.the-laws, (uint-vals w32, (slice-vals, (slice-vals, (uint-vals w32, (uint-vals w32, tt)))))))
+    (λ κs. (LL.vals N.the-type N′.the-laws, (slice-vals, (slice-vals, (uint-vals w32, (uint-vals w32, tt))))))
     (λ κs. (
       LL.tells N.the-type N′.the-laws,
-      (
-        uint-tells w32,
-        (shr-slice-tells (named 0) (κs .0) u32, (shr-slice-tells (named 1) (κs .1 .0) u16, (uint-tells w32, (uint-tells w32, tt)))),
-      ),
+      (shr-slice-tells (named 0) (κs .0) u32, (shr-slice-tells (named 1) (κs .1 .0) u16, (uint-tells w32, (uint-tells w32, tt)))),
     ))
     (λ κs qs bounds a g are.
     walk 𝓤 H A W mem run (κs .0) (κs .1 .0) (qs .0) (qs .1 .0) (a .0) (a .1 .0) (a .1 .1 .0) (a .1 .1 .1 .0) (a .1 .1 .1 .1 .0)
-    (a .1 .1 .1 .1 .1 .0) (𝓣 .C) (𝓣 .Λ) (fmOf 𝓤 H (W .laws) 𝓣) known-new known-pixel
-    (are .0) (are .1 .0) (are .1 .1 .0) (are .1 .1 .1 .0) (are .1 .1 .1 .1 .0) (are .1 .1 .1 .1 .1 .0))
+    (𝓣 .C) (𝓣 .Λ) (fmOf 𝓤 H (W .laws) 𝓣) known-new known-pixel
+    (are .0) (are .1 .0) (are .1 .1 .0) (are .1 .1 .1 .0) (are .1 .1 .1 .1 .0))
 
 pub read-pixel-spec : {M : Type 1} → stated.statement M
 unfolding code.routine tablesOf

@@ -1,18 +1,27 @@
 -- `scans::change_on` meets its contract. Assumes nothing.
 use borrow.Author.Needs.{needs}
 use mathlib.Core.Path.{sym, ap, _∙_}
+use Rattle.laws.specs.Answers.{leaves}
 use Rattle.laws.specs.AnswerLaws.{writes-on, leaves-on}
 use Rattle.scanout.specs.Answers.{changed}
 use Rattle.scans.specs.Scan.{changeOn}
 use Rattle.scans.proofs.change_on.Statement.{statement}
 use Rattle.scans.proofs.change_on.Tie as tie
 
+-- where the change is accepted
+abbrev put : tie.After-slice-known2 → tie.After-put-state
+put c = c .before .before
+
+abbrev pending : tie.After-put-state → tie.After-t
+pending c = c .before .before .before
+
 returns : tie.Need-returns
 unfolding changeOn
 returns c =
-    let t = c .before .before .before .before .before .t .given in
-    writes-on _ _ _ (t .0 .0) _
-    (sym (ap changed (t .1)) ∙ c .before .before .before .before .before .before .before .change-viewport .ensures) (c .before .before .put-changed .ensures)
+    let brought = pending (put c) in
+    let t = brought .t .given in
+    writes-on _ _ _ (t .0 .0) _ (sym (ap changed (t .1)) ∙ brought .before .before .change-viewport .ensures)
+    (ap (leaves 0) (put c .put-state .ensures))
 
 returns-2 : tie.Need-returns-2
 unfolding changeOn

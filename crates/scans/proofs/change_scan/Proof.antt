@@ -12,12 +12,21 @@ returns : tie.Need-returns
 unfolding changeScan loadScan tooShort
 returns c = leaves-on _ _ _ 10 (one-refuses 10 _ _ (omega arith) (lt-ltb _ _ (c .if1 .taken)))
 
+abbrev changed : tie.After-slice-known2 → tie.After-change-on
+changed c = c .before .before
+
+abbrev read : tie.After-change-on → tie.After-state-of
+read c = c .before .before
+
+abbrev room : tie.After-state-of → tie.Else1
+room c = c .before .before
+
 returns-2 : tie.Need-returns-2
 unfolding changeScan loadScan tooShort
 returns-2 c =
-    let read = c .before .before .before .before in
-    writes-on _ _ _ (read .state-of .result) _
-    (one-accepts 10 _ _ _ (le-ltb _ _ (read .before .before .if1 .left)) (read .state-of .ensures)) (c .before .before .change-on .ensures)
+    let s = read (changed c) in
+    writes-on _ _ _ (s .state-of .result) _ (one-accepts 10 _ _ _ (le-ltb _ _ (room s .if1 .left)) (s .state-of .ensures))
+    (changed c .change-on .ensures)
 
 pub change-scan-spec : {M : Type 1} → statement M
 change-scan-spec =

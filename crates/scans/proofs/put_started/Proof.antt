@@ -15,11 +15,17 @@ unfolding putStarted tooShort
 returns c =
     leaves-as-it-was 10 _ _ _ (stops _ _ _ _ (lowest-of-ascending-is-first 0 _ tt) (lt-ltb _ _ (c .if1 .taken))) (λ z. omega arith)
 
+abbrev put : tie.After-slice-known2 → tie.After-put-state
+put c = c .before .before
+
+abbrev room : tie.After-put-state → tie.Else1
+room c = c .before .before
+
 returns-2 : tie.Need-returns-2
 unfolding putStarted tooShort
 returns-2 c =
-    leaves-written _ _ _ _ (sym (ends _ _ _ (lowest-of-ascending-is-first 0 _ tt) (le-ltb _ _ (c .before .before .before .before .if1 .left))))
-    (c .before .before .put-state .ensures)
+    leaves-written _ _ _ _ (sym (ends _ _ _ (lowest-of-ascending-is-first 0 _ tt) (le-ltb _ _ (room (put c) .if1 .left))))
+    (put c .put-state .ensures)
 
 pub put-started-spec : {M : Type 1} → statement M
 put-started-spec =

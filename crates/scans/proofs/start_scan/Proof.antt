@@ -7,12 +7,19 @@ use Rattle.scans.specs.Scan.{startScan}
 use Rattle.scans.proofs.start_scan.Statement.{statement}
 use Rattle.scans.proofs.start_scan.Tie as tie
 
+-- a start that is accepted
+abbrev put : tie.After-slice-known2 → tie.After-put-started
+put c = c .before .before
+
+abbrev ready : tie.After-put-started → tie.After-s
+ready c = c .before .before .before
+
 returns : tie.Need-returns
 unfolding startScan
 returns c =
-    let s = c .before .before .before .before .before .s .given in
-    writes-on _ _ _ (s .0 .0) _
-    (sym (ap started (s .1)) ∙ c .before .before .before .before .before .before .before .start .ensures) (c .before .before .put-started .ensures)
+    let begun = ready (put c) in
+    let s = begun .s .given in
+    writes-on _ _ _ (s .0 .0) _ (sym (ap started (s .1)) ∙ begun .before .before .start .ensures) (put c .put-started .ensures)
 
 returns-2 : tie.Need-returns-2
 unfolding startScan

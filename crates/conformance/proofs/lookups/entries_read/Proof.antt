@@ -6,10 +6,10 @@ use Rattle.conformance.proofs.lookups.entries_read.Statement.{statement
 use Rattle.conformance.proofs.lookups.entries_read.Tie as tie
 
 abbrev Inv-loop : tie.InvT-loop
-Inv-loop case w palette video row drawn wide place₀ right₀ i₀ place right i = Unit {0}
+Inv-loop case s palette video row drawn wide place₀ right₀ i₀ place right i = Unit {0}
 
 abbrev μ-loop : tie.MeasureT-loop
-μ-loop case w palette video row drawn wide place₀ right₀ i₀ place right i = length drawn - i
+μ-loop case s palette video row drawn wide place₀ right₀ i₀ place right i = length drawn - i
 
 pub entries-read-spec : {M : Type 1} → statement M
 entries-read-spec =

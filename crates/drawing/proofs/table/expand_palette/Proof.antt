@@ -9,10 +9,10 @@ use Rattle.drawing.proofs.table.expand_palette.Statement.{statement}
 use Rattle.drawing.proofs.table.expand_palette.Tie as tie
 
 abbrev Inv-loop : tie.InvT-loop
-Inv-loop palette n frm565 table₀ i₀ table i = (i ≤ n) × Stored (λ k. expanded frm565 (getD palette k 0)) 0 table₀ table i
+Inv-loop palette n expansion table₀ i₀ table i = (i ≤ n) × Stored (λ k. expanded expansion (getD palette k 0)) 0 table₀ table i
 
 abbrev μ-loop : tie.MeasureT-loop
-μ-loop palette n frm565 table₀ i₀ table i = n - i
+μ-loop palette n expansion table₀ i₀ table i = n - i
 
 cast-expand : tie.Need-cast-expand Inv-loop μ-loop
 cast-expand c = omega (arith, c .shared-slice-known2 .given (c .before .before .loop .i))

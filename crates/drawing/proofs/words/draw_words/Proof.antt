@@ -2,7 +2,7 @@
 use mathlib.Core.Bool.{false}
 use mathlib.Core.List.{List}
 use mathlib.Core.Path.{_≡_, refl}
-use Prim.Native.Nat.{ℕ, _+_, _*_, _/_, _^_, _<_, _≤_}
+use Prim.Native.Nat.{ℕ, _+_, _-_, _*_, _/_, _^_, _<_, _≤_}
 use borrow.Author.Needs.{needs}
 use lib.Dec.{lit<, lit≤}
 use lib.ListN.{length, getD}
@@ -14,11 +14,18 @@ use Rattle.drawing.proofs.Formats.{last-size, looked-up, halves-expande
 use Rattle.drawing.proofs.words.draw_words.Statement.{statement}
 use Rattle.drawing.proofs.words.draw_words.Tie as tie
 
+-- ---- the stages
+
+abbrev start-of : tie.After-slice-known → tie.Start
+start-of c = c .before .before .before
+
+-- ---- the arms
+
 -- what an arm of indices asks, at s bits
 asks : (start : tie.Start) (s : ℕ) → start .args .f .bits ≡ s → 0 < s → s * (32 / s) ≡ 32 → s ≤ 8
     → Fits s (start .args .n) (start .args .at) (start .args .out .now)
     × (2 ^ s ≤ length (start .args .table .now))
-    × (start .args .from + start .args .n ≤ length (start .args .video .now))
+    × (start .args .n ≤ length (start .args .video .now) - start .args .from)
 asks start s is pos fill few = (
   fits-size (start .args .f) s (start .args .n) (start .args .at) (start .args .out .now) is pos fill (start .pre .3),
   table-room (start .args .f) (start .args .table .now) s is few (start .pre .1),
@@ -26,16 +33,16 @@ asks start s is pos fill few = (
 )
 
 look-up-words-requires : tie.Need-look-up-words-requires
-look-up-words-requires c κs = asks (c .before .before .before .before .before) 1 (c .before .match .keys1) (lit< tt) refl (lit≤ tt)
+look-up-words-requires c κs = asks (start-of (c .before .before)) 1 (c .before .match .keys1) (lit< tt) refl (lit≤ tt)
 
 look-up-words-requires-2 : tie.Need-look-up-words-requires-2
-look-up-words-requires-2 c κs = asks (c .before .before .before .before .before) 2 (c .before .match .keys2) (lit< tt) refl (lit≤ tt)
+look-up-words-requires-2 c κs = asks (start-of (c .before .before)) 2 (c .before .match .keys2) (lit< tt) refl (lit≤ tt)
 
 look-up-words-requires-3 : tie.Need-look-up-words-requires-3
-look-up-words-requires-3 c κs = asks (c .before .before .before .before .before) 4 (c .before .match .keys3) (lit< tt) refl (lit≤ tt)
+look-up-words-requires-3 c κs = asks (start-of (c .before .before)) 4 (c .before .match .keys3) (lit< tt) refl (lit≤ tt)
 
 look-up-words-requires-4 : tie.Need-look-up-words-requires-4
-look-up-words-requires-4 c κs = asks (c .before .before .before .before .before) 8 (c .before .match .keys4) (lit< tt) refl (lit≤ tt)
+look-up-words-requires-4 c κs = asks (start-of (c .before .before)) 8 (c .before .match .keys4) (lit< tt) refl (lit≤ tt)
 
 -- what such an arm leaves
 leaves : (start : tie.Start) (s : ℕ) → start .args .f .bits ≡ s → s ≤ 8 → (left : List ℕ)
@@ -53,48 +60,58 @@ leaves start s is few left e =
     (start .args .at) (start .args .n) (start .args .out .now) left few e
 
 returns : tie.Need-returns
-returns c = leaves (c .before .before .before .before .before .before .before .before) 1 (c .before .before .before .before .match .keys1) (lit≤ tt) _ (c .before .before .look-up-words .ensures)
+returns c =
+    let drew = c .before .before in
+    leaves (start-of (drew .before .before .before)) 1 (drew .before .before .match .keys1) (lit≤ tt) _ (drew .look-up-words .ensures)
 
 returns-2 : tie.Need-returns-2
-returns-2 c = leaves (c .before .before .before .before .before .before .before .before) 2 (c .before .before .before .before .match .keys2) (lit≤ tt) _ (c .before .before .look-up-words2 .ensures)
+returns-2 c =
+    let drew = c .before .before in
+    leaves (start-of (drew .before .before .before)) 2 (drew .before .before .match .keys2) (lit≤ tt) _ (drew .look-up-words2 .ensures)
 
 returns-3 : tie.Need-returns-3
-returns-3 c = leaves (c .before .before .before .before .before .before .before .before) 4 (c .before .before .before .before .match .keys3) (lit≤ tt) _ (c .before .before .look-up-words3 .ensures)
+returns-3 c =
+    let drew = c .before .before in
+    leaves (start-of (drew .before .before .before)) 4 (drew .before .before .match .keys3) (lit≤ tt) _ (drew .look-up-words3 .ensures)
 
 returns-4 : tie.Need-returns-4
-returns-4 c = leaves (c .before .before .before .before .before .before .before .before) 8 (c .before .before .before .before .match .keys4) (lit≤ tt) _ (c .before .before .look-up-words4 .ensures)
+returns-4 c =
+    let drew = c .before .before in
+    leaves (start-of (drew .before .before .before)) 8 (drew .before .before .match .keys4) (lit≤ tt) _ (drew .look-up-words4 .ensures)
 
 expand-words-requires : tie.Need-expand-words-requires
 expand-words-requires c κs =
-    let start = c .before .before .before .before .before in (
+    let start = start-of (c .before .before) in (
       fits-size (start .args .f) 16 (start .args .n) (start .args .at) (start .args .out .now) (c .before .match .keys5) (lit< tt) refl (start .pre .3),
       start .pre .2,
     )
 
 returns-5 : tie.Need-returns-5
 returns-5 c =
-    let start = c .before .before .before .before .before .before .before .before in
+    let drew = c .before .before in
+    let start = start-of (drew .before .before .before) in
     halves-expanded (start .args .f) (start .pre .0) (start .args .table .now) (start .args .video .now) (start .args .from) 16
-    (c .before .before .before .before .match .keys5) (start .args .at) (start .args .n) (start .args .out .now) _ refl (c .before .before .expand-words .ensures)
+    (drew .before .before .match .keys5) (start .args .at) (start .args .n) (start .args .out .now) _ refl (drew .expand-words .ensures)
 
-is-last : (c : tie.At-match-rest) → c .before .before .before .before .args .f .bits ≡ 32
+is-last : (c : tie.At-match-rest) → start-of (c .before) .args .f .bits ≡ 32
 is-last c =
-    let start = c .before .before .before .before in
+    let start = start-of (c .before) in
     let r = c .match .rest in
-    last-size (start .args .f) (start .pre .0) (r .0 .0 .0 .0 .1) (r .0 .0 .0 .1) (r .0 .0 .1) (r .0 .1) (r .1)
+    last-size (start .args .f) (start .pre .0 .stores) (r .0 .0 .0 .0 .1) (r .0 .0 .0 .1) (r .0 .0 .1) (r .0 .1) (r .1)
 
 cut-words-requires : tie.Need-cut-words-requires
 cut-words-requires c κs =
-    let start = c .before .before .before .before .before in (
+    let start = start-of (c .before .before) in (
       fits-size (start .args .f) 32 (start .args .n) (start .args .at) (start .args .out .now) (is-last (c .before)) (lit< tt) refl (start .pre .3),
       start .pre .2,
     )
 
 returns-6 : tie.Need-returns-6
 returns-6 c =
-    let start = c .before .before .before .before .before .before .before .before in
+    let drew = c .before .before in
+    let start = start-of (drew .before .before .before) in
     words-cut (start .args .f) (start .pre .0) (start .args .table .now) (start .args .video .now) (start .args .from) 32
-    (is-last (c .before .before .before .before)) (start .args .at) (start .args .n) (start .args .out .now) _ refl (c .before .before .cut-words .ensures)
+    (is-last (drew .before .before)) (start .args .at) (start .args .n) (start .args .out .now) _ refl (drew .cut-words .ensures)
 
 pub draw-words-spec : {M : Type 1} → statement M
 draw-words-spec =

@@ -13,10 +13,10 @@ use Rattle.drawing.proofs.words.expand_words.Statement.{statement}
 use Rattle.drawing.proofs.words.expand_words.Tie as tie
 
 abbrev Inv-loop : tie.InvT-loop
-Inv-loop video from n hwswp frm565 at out₀ i₀ out i = (i ≤ n) × Stored (λ j. expanded frm565 (storedPixel 16 false hwswp video from j)) at out₀ out (i * 2)
+Inv-loop video from n hwswp expansion at out₀ i₀ out i = (i ≤ n) × Stored (λ j. expanded expansion (storedPixel 16 false hwswp video from j)) at out₀ out (i * 2)
 
 abbrev μ-loop : tie.MeasureT-loop
-μ-loop video from n hwswp frm565 at out₀ i₀ out i = n - i
+μ-loop video from n hwswp expansion at out₀ i₀ out i = n - i
 
 mul-out : tie.Need-mul-out Inv-loop μ-loop
 mul-out c = omega arith
@@ -47,18 +47,19 @@ slice-write-out-2 c = simp length-set (omega arith)
 
 loop-again : tie.Need-loop-again Inv-loop μ-loop
 loop-again c =
-    let loop = c .before .before .before .before .before .before .before in
+    let first-half = c .before .before .before in
+    let halves = first-half .before .exchange-halves in
+    let loop = first-half .before .before .before .before in
     let start = loop .before .before .before in
     let video = start .args .video .now in
-    let halves = c .before .before .before .before .exchange-halves in
     let first = one-more _ _ _ _ _ (loop .loop .inv .1) _ _ refl
     (c .before .before .expand .ensures
-    ∙ ap (expanded (start .args .frm565))
-    (rw (c .before .before .before .half .ensures, halves .ensures)
+    ∙ ap (expanded (start .args .expansion))
+    (rw (first-half .half .ensures, halves .ensures)
     (first-of-two (start .args .hwswp) video (start .args .from) (loop .loop .i)))) in
     let second = one-more _ _ _ _ _ first _ _ refl
     (c .expand2 .ensures
-    ∙ ap (expanded (start .args .frm565))
+    ∙ ap (expanded (start .args .expansion))
     (rw (c .before .half2 .ensures, halves .ensures)
     (second-of-two (start .args .hwswp) video (start .args .from) (loop .loop .i)))) in
     (omega arith, so-many-stored _ _ _ _ _ second _ (omega arith))

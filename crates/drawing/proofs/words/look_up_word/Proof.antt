@@ -18,31 +18,32 @@ Inv-loop x s table at out₀ n k₀ out k = (k ≤ n) × Stored (λ j. getD tabl
 abbrev μ-loop : tie.MeasureT-loop
 μ-loop x s table at out₀ n k₀ out k = n - k
 
-inside : (c : tie.In-loop Inv-loop μ-loop)
-    → c .before .before .before .before .args .s * c .before .loop .k + c .before .before .before .before .args .s ≤ 32
+abbrev start : tie.In-loop Inv-loop μ-loop → tie.Start Inv-loop μ-loop
+start c = c .before .before .before .before
+
+inside : (c : tie.In-loop Inv-loop μ-loop) → start c .args .s * c .before .loop .k + start c .args .s ≤ 32
 inside c =
-    let start = c .before .before .before .before in
-    pixel-inside (start .args .s) (c .before .loop .k) (start .pre .0 .whole) (c .loop-test .taken)
+    pixel-inside (start c .args .s) (c .before .loop .k) (start c .pre .0 .whole) (c .loop-test .taken)
 
 -- what was cut is pixel k
 is-pixel : (c : tie.After-bits-past Inv-loop μ-loop)
-    → c .bits-past .result ≡ pixelBits (c .before .before .before .before .before .args .s) (c .before .before .before .before .before .args .x) (c .before .before .loop .k)
+    → c .bits-past .result ≡ pixelBits (start (c .before) .args .s) (start (c .before) .args .x) (c .before .before .loop .k)
 is-pixel c =
-    let start = c .before .before .before .before .before in
-    c .bits-past .ensures ∙ pixel-past (start .args .s) (c .before .before .loop .k) _ (start .args .x) refl
+    let a = start (c .before) .args in
+    c .bits-past .ensures ∙ pixel-past (a .s) (c .before .before .loop .k) _ (a .x) refl
 
 index-lt : (c : tie.After-bits-past Inv-loop μ-loop)
-    → c .bits-past .result < length (c .before .before .before .before .before .args .table .now)
+    → c .bits-past .result < length (start (c .before) .args .table .now)
 index-lt c =
-    let start = c .before .before .before .before .before in
+    let s = start (c .before) in
     rw (is-pixel c)
-    (lt-of-lt-of-le (pixel-bits-lt (start .args .s) (start .args .x) (c .before .before .loop .k)) (start .pre .1))
+    (lt-of-lt-of-le (pixel-bits-lt (s .args .s) (s .args .x) (c .before .before .loop .k)) (s .pre .1))
 
 mul-bits-past : tie.Need-mul-bits-past Inv-loop μ-loop
 mul-bits-past c = omega (arith, inside c)
 
 bits-past-requires : tie.Need-bits-past-requires Inv-loop μ-loop
-bits-past-requires c κs = (c .before .before .before .before .pre .0 .some, inside c)
+bits-past-requires c κs = (start c .pre .0 .some, inside c)
 
 mul-out : tie.Need-mul-out Inv-loop μ-loop
 mul-out c = omega (arith, index-lt c)
@@ -63,7 +64,7 @@ loop-again : tie.Need-loop-again Inv-loop μ-loop
 loop-again c = (
   omega arith,
   one-more _ _ _ _ _ (c .before .before .before .loop .inv .1) _ _ refl
-      (ap (λ (v : ℕ). getD (c .before .before .before .before .before .before .args .table .now) v 0) (is-pixel (c .before))),
+      (ap (λ (v : ℕ). getD (start (c .before .before) .args .table .now) v 0) (is-pixel (c .before))),
 )
 
 pub look-up-word-spec : {M : Type 1} → statement M
@@ -83,7 +84,7 @@ look-up-word-spec =
     add-out
     mul-out-2
     slice-write-out
-    (λ c. omega (arith, div-le-self 32 (c .before .before .before .before .before .before .args .s)))
+    (λ c. omega (arith, div-le-self 32 (start (c .before .before) .args .s)))
     (λ c. omega arith)
     loop-again
     (λ c. c .before .loop .inv .1 .size)

@@ -23,21 +23,22 @@ abbrev μ-loop : tie.MeasureT-loop
 cast-per-word : tie.Need-cast-per-word Inv-loop μ-loop
 cast-per-word c = omega (arith, div-le-self 32 (c .before .before .before .args .s))
 
+abbrev start : tie.In-loop Inv-loop μ-loop → tie.Start Inv-loop μ-loop
+start c = c .before .before .before .before .before
+
 -- the next word's pixels have room
 room : (c : tie.In-loop Inv-loop μ-loop)
-    → c .before .before .before .before .before .args .at
-    + (c .before .loop .i * (32 / c .before .before .before .before .before .args .s) + 32 / c .before .before .before .before .before .args .s)
+    → start c .args .at + (c .before .loop .i * (32 / start c .args .s) + 32 / start c .args .s)
     ≤ length (c .before .loop .out)
 room c =
-    let start = c .before .before .before .before .before in
-    let q = 32 / start .args .s in
+    let q = 32 / start c .args .s in
     let i = c .before .loop .i in
     omega (
       arith,
-      start .pre .0 .room,
+      start c .pre .0 .room,
       c .before .loop .inv .1 .size,
       add-mul i 1 q,
-      mul-le-mul-right {m = i + 1} {n = start .args .n} q (omega arith),
+      mul-le-mul-right {m = i + 1} {n = start c .args .n} q (omega arith),
     )
 
 mul-look-up-word : tie.Need-mul-look-up-word Inv-loop μ-loop
@@ -48,7 +49,7 @@ add-look-up-word c = omega (arith, room (c .before .before))
 
 look-up-word-requires : tie.Need-look-up-word-requires Inv-loop μ-loop
 look-up-word-requires c κs =
-    let pre = c .before .before .before .before .before .before .before .before .pre in (
+    let pre = start (c .before .before .before) .pre in (
       record {
         some = pre .0 .some;
         whole = pre .0 .whole;
@@ -59,17 +60,19 @@ look-up-word-requires c κs =
 
 loop-again : tie.Need-loop-again Inv-loop μ-loop
 loop-again c =
-    let loop = c .before .before .before .before .before .before .before in
-    let start = loop .before .before .before .before in
-    let i = loop .loop .i in
-    let s = start .args .s in (
+    let drew = c .before .before in
+    let read = drew .before .before in
+    let turn = read .before .before in
+    let a = start turn .args in
+    let i = turn .before .loop .i in
+    let s = a .s in (
       omega arith,
       so-many-stored _ _ _ _ _
-          (some-more _ _ _ _ _ (loop .loop .inv .1) _ _ (32 / s) _ (c .before .before .look-up-word .ensures) refl
+          (some-more _ _ _ _ _ (turn .before .loop .inv .1) _ _ (32 / s) _ (drew .look-up-word .ensures) refl
           (λ k h.
-          ap (λ (v : ℕ). getD (start .args .table .now) v 0)
-          (ap (λ (x : ℕ). pixelBits s x k) (c .before .before .before .before .in-order .ensures)
-          ∙ sym (word-pixel s (start .args .bswp) false (start .args .video .now) (start .args .from) i k h))))
+          ap (λ (v : ℕ). getD (a .table .now) v 0)
+          (ap (λ (x : ℕ). pixelBits s x k) (read .in-order .ensures)
+          ∙ sym (word-pixel s (a .bswp) false (a .video .now) (a .from) i k h))))
           _ (omega (arith, add-mul i 1 (32 / s))),
     )
 

@@ -1,70 +1,62 @@
 -- `lcd::pixel::draw_pixel_in` meets its contract. Assumes nothing.
-use native.Mathlib.Omega.{arith}
+use mathlib.Core.Bool.{Bool, _||_}
+use mathlib.Core.List.{[], _∷_}
+use mathlib.Core.Path.{_≡_, sym, ap, _∙_}
+use Prim.Native.Nat.{ℕ, _≤_}
 use borrow.Author.Needs.{needs}
-use mathlib.Core.List.{List}
-use mathlib.Core.Path.{_≡_, sym, ap, ap₂, _∙_}
-use Prim.Native.Nat.{ℕ, _<_}
-use lib.ListN.{length, set}
-use Rattle.laws.specs.Answers.{Answer, Outcome, accepted, refused, leaves, outcome}
-use Rattle.laws.specs.AnswerLaws.{judged-accepted, judged-refused, leaves-as-it-was}
-use Rattle.laws.specs.Cases.{lower}
-use Rattle.laws.specs.CaseLaws.{lowest-joined, joined-pass}
-use Rattle.drawing.specs.Colour.{colour}
-use Rattle.drawing.specs.Drawing.{drawn, judgePixel, drawPixel, pixelCases}
-use Rattle.registers.specs.declared.Words.{Words}
-use Rattle.lcd.specs.Pixel.{entryCases, judgeEntries, putColour, judgePixelIn, drawPixelIn}
+use borrow.Author.Tests.{ltb-false}
+use lib.ListN.{set}
+use Rattle.laws.specs.AnswerLaws.{leaves-as-it-was, leaves-written}
+use Rattle.laws.specs.BooleanLaws.{or-false-right}
+use Rattle.laws.specs.Cases.{_when_}
+use Rattle.laws.specs.CaseLaws.{both-pass}
+use Rattle.registers.specs.Loading.{tooShort}
+use Rattle.memory.specs.Memory.{memoryCases}
+use Rattle.memory.specs.declared.Screen.{Screen}
+use Rattle.drawing.specs.Drawing.{paletteWrong, rowOutside, columnOutside, colourTail, drawingCases, judgePixel}
+use Rattle.lcd.specs.Pixel.{drawPixelIn}
 use Rattle.lcd.proofs.pixel.draw_pixel_in.Statement.{statement}
 use Rattle.lcd.proofs.pixel.draw_pixel_in.Tie as tie
 
-module _ (w : Words) (window : ℕ) (memory palette : List ℕ) (r c : ℕ) (out : List ℕ) (x : Answer ℕ) (is : x ≡ drawPixel w window memory palette r c) where
-  joined : judgePixelIn w window memory palette r c out ≡ lower (judgePixel w window memory palette r c) (judgeEntries (length out))
-  unfolding judgePixelIn judgePixel judgeEntries
-  joined = lowest-joined (pixelCases w window memory palette r c) (entryCases (length out))
+-- where nothing is refused, there is an entry for the colour
+has-entry : (s : Screen) (lent entries room r c : ℕ) → judgePixel s lent entries (tooShort room 1) r c ≡ 0 → 1 ≤ room
+unfolding judgePixel tooShort
+has-entry s lent entries room r c e =
+    ltb-false room 1
+    (or-false-right (paletteWrong entries) (tooShort room 1)
+    (both-pass (memoryCases s lent) (colourTail (s .words) entries (tooShort room 1)) tt tt
+    (both-pass (drawingCases s lent entries (tooShort room 1)) (11 when outside ∷ []) tt tt e .0) .1 .1 .0))
+  where
+    outside : Bool
+    outside = rowOutside (s .words) r || columnOutside (s .words) c
 
-  -- a pixel that is not refused is judged by the lent entry only
-  drawn-in : (v : ℕ) (o : Outcome) → accepted v ≡ x → o ≡ putColour v out
-      → o ≡ drawPixelIn w window memory palette r c out
-  unfolding drawPixelIn putColour drawPixel lower
-  drawn-in v o e put =
-      let taken = judged-accepted (judgePixel w window memory palette r c) (colour w window memory palette r c) v (sym (e ∙ is)) in
-      put
-      ∙ ap₂ (λ (k x : ℕ). outcome k out (set out 0 x))
-      (sym (joined ∙ ap (λ (k : ℕ). lower k (judgeEntries (length out))) (taken .0))) (sym (taken .1))
-
-  -- one that is refused gives the lower number of the two, which is not 0
-  refused-in : (n m : ℕ) → refused n ≡ x → m ≡ lower n (judgeEntries (length out))
-      → leaves m out ≡ drawPixelIn w window memory palette r c out
-  unfolding drawPixelIn judgePixelIn judgePixel drawPixel
-  refused-in n m e lowers =
-      leaves-as-it-was m _ out _ number
-      (λ z. absurd (omega (arith, taken .1, joined-pass (pixelCases w window memory palette r c) (entryCases (length out)) (sym number ∙ z) .0)))
-    where
-      taken : (judgePixel w window memory palette r c ≡ n) × (0 < judgePixel w window memory palette r c)
-      taken = judged-refused (judgePixel w window memory palette r c) (colour w window memory palette r c) n (sym (e ∙ is))
-
-      number : m ≡ judgePixelIn w window memory palette r c out
-      number = lowers ∙ ap (λ (k : ℕ). lower k (judgeEntries (length out))) (sym (taken .0)) ∙ sym joined
+abbrev start : tie.After-judge-pixel → tie.Start
+start c = c .before .before .before .before
 
 returns : tie.Need-returns
-returns c =
-    let v = c .before .before .before .before .before .v .given in
-    drawn-in _ _ _ _ _ _ _ _ (c .before .before .before .before .before .before .before .draw-pixel .ensures) (v .0 .0) _ (sym (ap drawn (v .1)))
-    (c .before .before .put-colour .ensures)
+unfolding drawPixelIn tooShort
+returns c = leaves-as-it-was _ _ _ _ (c .before .judge-pixel .ensures) (c .if1 .taken)
+
+slice-write-out : tie.Need-slice-write-out
+unfolding tooShort
+slice-write-out c =
+    let p = c .before in
+    has-entry _ _ _ _ _ _ (sym (p .before .judge-pixel .ensures) ∙ p .if1 .left)
 
 returns-2 : tie.Need-returns-2
+unfolding drawPixelIn tooShort
 returns-2 c =
-    let n = c .before .before .n .given in
-    refused-in _ _ _ _ _ _ _ _ (c .before .before .before .before .draw-pixel .ensures) (n .0 .0) _ (sym (ap drawn (n .1))) (c .beside-entries .ensures)
+    let p = c .before in
+    leaves-written _ _ _ _ (sym (p .before .judge-pixel .ensures) ∙ p .if1 .left)
+    (ap (λ (v : ℕ). set (start (p .before) .args .out .now) 0 v) (c .pixel-colour .ensures))
 
 pub draw-pixel-in-spec : {M : Type 1} → statement M
 draw-pixel-in-spec =
     tie.close
     (tie.spec
     (λ c κs. tt)
-    (λ c. search needs)
-    (λ c κs. tt)
-    (λ c. search needs)
-    (λ c κs. tt)
-    (λ c. search needs)
     returns
+    (λ c κs. tt)
+    slice-write-out
+    (λ c. search needs)
     returns-2)

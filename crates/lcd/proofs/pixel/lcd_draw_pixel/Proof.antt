@@ -7,12 +7,16 @@ use Rattle.lcd.specs.Pixel.{drawPixel}
 use Rattle.lcd.proofs.pixel.lcd_draw_pixel.Statement.{statement}
 use Rattle.lcd.proofs.pixel.lcd_draw_pixel.Tie as tie
 
+-- where the words are nine
+abbrev nine : tie.After-draw-pixel-in → tie.After-w
+nine c = c .before .before .before
+
 returns : tie.Need-returns
 unfolding drawPixel
 returns c =
-    let nine = c .before .before .before .before .before .w .given in
-    writes-on _ _ _ (nine .0 .0) _
-    (sym (ap loaded (nine .1)) ∙ c .before .before .before .before .before .before .before .load .ensures) (c .before .before .draw-pixel-in .ensures)
+    let d = c .before .before in
+    let n = nine d in
+    writes-on _ _ _ (n .w .given .0 .0) _ (sym (ap loaded (n .w .given .1)) ∙ n .before .before .load .ensures) (d .draw-pixel-in .ensures)
 
 returns-2 : tie.Need-returns-2
 unfolding drawPixel

@@ -13,7 +13,7 @@ returns c =
       c3 .before .before .bswp .ensures,
       c3 .before .hwswp .ensures,
       c3 .bpp24bl .ensures,
-      c .before .before .frm565 .ensures,
+      c .before .before .expansion-of .ensures,
       c .before .tpalen .ensures,
       c .tpalval .ensures,
     )

@@ -19,7 +19,8 @@ use contract.Monad.{Fun}
 use contract.Running.{givenOf, tables, tablesOf}
 use types.Kit.{Given, ‵, raw, given, _$_, _∵_, !, qed, by, move, drop, use1, join, learn, fsplit, fsplit3, fjoin, frame, done}
 use types.Part.{whole, sub, look-in}
-use types.Run.{look, init, stop, fld, from, load, of-opd, and-then, no-more, assigns, land, returns, enter, alloc1, alloc0, params1, pass1, pass0, free0}
+use types.Run.{look, init, stop, fld, from, load, of-opd, and-then, no-more, assigns, land, returns, enter, alloc1}
+use types.Run.{alloc0, params1, pass1, pass0, free0}
 use sound.WpLaws.{FmC, fmOf}
 use denote.RattleType.{RattleType, owns}
 use denote.Laws.{Is, shows}
@@ -39,8 +40,8 @@ use denote.Triple.Entry.{Args, Vals, alive, onEntry}
 use denote.Triple.Spec.{Meets, tripleOf}
 use denote.Triple.Table.{entered, cited}
 use denote.Triple.Walked.{Stays, walkOf}
-use Rattle.registers.proofs.Words.Laws as N′
-use Rattle.drawing.specs.Drawing.{drawn}
+use Rattle.memory.proofs.Screen.Laws as N′
+use Rattle.drawing.specs.Drawing.{drawnPixel}
 use Rattle.drawing.specs.declared.pixel.Drawn.{Drawn}
 use Rattle.drawing.proofs.pixel.Drawn as S
 use Rattle.drawing.proofs.pixel.Drawn.Laws as S′
@@ -103,18 +104,15 @@ module _ {M : Type 1} (𝓤 : URA M) (H : Heap 𝓤) (A : Atoms 𝓤) (W : Given
 
   -- the fields' values, and what the callee is passed
   abbrev vd : Values (D κs .parts)
-  vd = (d .words, (d .«window_start», (d .video, tt)))
+  vd = (d .screen, (d .video, tt))
 
   abbrev y : Args draw.signature κs
-  y = (d .words, (d .«window_start», (d .video, (p, (r, (c, tt))))))
+  y = (d .screen, (d .video, (p, (r, (c, tt)))))
 
   abbrev passed : Vals draw.signature κs
   passed = (
-    N′.lowered (d .words) ∷ [],
-    (
-      vint w32 (d .«window_start») ∷ [],
-      (sliceVal (d .video .ptr) (length (d .video .now)) ∷ [], (v ∷ [], (vint w32 r ∷ [], (vint w32 c ∷ [], tt)))),
-    ),
+    N′.lowered (d .screen) ∷ [],
+    (sliceVal (d .video .ptr) (length (d .video .now)) ∷ [], (v ∷ [], (vint w32 r ∷ [], (vint w32 c ∷ [], tt)))),
   )
 
   abbrev to : Draw 𝓤 H A mem run .Ghost
@@ -127,13 +125,13 @@ module _ {M : Type 1} (𝓤 : URA M) (H : Heap 𝓤) (A : Atoms 𝓤) (W : Given
       move ! (1 ∷ []) $ fsplit ! $
       use1 W (given (mach ∷ [] ≡ mach ∷ []) (‵ (all-own (D κs .parts) (L κs) vd))) (own-open 𝓤 H A W (D κs) (L κs) vd mach) $ learn ! (λ _.
       -- [what the fields own together; what the others own; the tokens]
-      fsplit3 ! $ move ! (2 ∷ []) $ fsplit ! $ move ! (1 ∷ []) $ drop ! $
-      -- [what video owns; words; window_start; the others; the tokens]
-      move ! (0 ∷ 3 ∷ []) $ fjoin ! $ move ! (2 ∷ 0 ∷ []) $ fjoin ! $ move ! (1 ∷ 0 ∷ []) $ fjoin ! $
+      fsplit3 ! $ move ! (2 ∷ []) $ drop ! $
+      -- [the screen; what video owns; the others; the tokens]
+      move ! (1 ∷ 2 ∷ []) $ fjoin ! $ move ! (1 ∷ 0 ∷ []) $ fjoin ! $
       move ! (1 ∷ 0 ∷ []) $ join ! $ frame ! $ done !)
 
   abbrev found : Drawn → Type 0
-  found t = drawn t ≡ lookUp d (now p) r c
+  found t = drawnPixel t ≡ lookUp d (now p) r c
 
   module _ (C : Calls 𝓤 H) (Λ : Loops 𝓤 H) (fm : FmC 𝓤 H (W .laws) C)
       (known : Triple 𝓤 (C #drawing·draw-pixel) (Draw 𝓤 H A mem run)) where
@@ -144,31 +142,31 @@ module _ {M : Type 1} (𝓤 : URA M) (H : Heap 𝓤) (A : Atoms 𝓤) (W : Given
     walk wt ip ir ic =
         qed W (raw (onEntry 𝓤 H A pixel.signature κs qs x at) ∷ []) ∵
         enter ! C Λ code.function (mach ∷ v ∷ vint w32 r ∷ vint w32 c ∷ []) _ $
-        alloc1 ! (λ l₀. alloc1 ! (λ l₁. alloc1 ! (λ l₂. alloc1 ! (λ l₃. alloc1 ! (λ l₄. alloc1 ! (λ l₅. alloc1 ! (λ l₆. alloc1 ! (λ l₇.
-        alloc0 ! $ params1 ! $ pass1 ! (init ! 12 refl wt) $
-        pass1 ! (init ! 10 refl (shr-slice-lawful 𝓤 H A W (named 1) κ′ u16 .typed p _ ip .0)) $
-        pass1 ! (init ! 8 refl (uint-lawful 𝓤 H A W w32 .typed r _ ir .0)) $
-        pass1 ! (init ! 6 refl (uint-lawful 𝓤 H A W w32 .typed c _ ic .0)) $ pass0 ! $
+        alloc1 ! (λ l₀. alloc1 ! (λ l₁. alloc1 ! (λ l₂. alloc1 ! (λ l₃. alloc1 ! (λ l₄. alloc1 ! (λ l₅. alloc1 ! (λ l₆.
+        alloc0 ! $ params1 ! $ pass1 ! (init ! 10 refl wt) $
+        pass1 ! (init ! 8 refl (shr-slice-lawful 𝓤 H A W (named 1) κ′ u16 .typed p _ ip .0)) $
+        pass1 ! (init ! 6 refl (uint-lawful 𝓤 H A W w32 .typed r _ ir .0)) $
+        pass1 ! (init ! 4 refl (uint-lawful 𝓤 H A W w32 .typed c _ ic .0)) $ pass0 ! $
         -- the struct is taken apart
-        assigns ! (of-opd ! (load ! (from ! (fld ! refl (stop !))) (look-in ! 12 (sub ! 0 refl (whole !))))) (from ! (stop !))
-        (init ! 4 refl (tt, wt .1 .0)) $
-        assigns ! (of-opd ! (load ! (from ! (fld ! refl (stop !))) (look-in ! 12 (sub ! 1 refl (whole !))))) (from ! (stop !))
-        (init ! 2 refl (tt, wt .1 .1 .0)) $
-        assigns ! (of-opd ! (load ! (from ! (fld ! refl (stop !))) (look-in ! 12 (sub ! 2 refl (whole !))))) (from ! (stop !))
-        (init ! 0 refl (tt, wt .1 .1 .1 .0)) $
-        move ! (16 ∷ []) $ use1 W (raw (Draw 𝓤 H A mem run .pre to)) apart $
-        -- [what the callee asks; _7; …; _6; …; _5; …; _4; …; _3; …; _2; …; _1; …; room for _0; …]
+        assigns ! (of-opd ! (load ! (from ! (fld ! refl (stop !))) (look-in ! 10 (sub ! 0 refl (whole !))))) (from ! (stop !))
+        (init ! 2 refl (tt, wt .1 .0)) $
+        assigns ! (of-opd ! (load ! (from ! (fld ! refl (stop !))) (look-in ! 10 (sub ! 1 refl (whole !))))) (from ! (stop !))
+        (init ! 0 refl (tt, wt .1 .1 .0)) $
+        move ! (14 ∷ []) $ use1 W (raw (Draw 𝓤 H A mem run .pre to)) apart $
+        -- [what the callee asks; _6; …; _5; …; _4; …; _3; …; _2; …; _1; …; room for _0; …]
         told ! fm draw.ended (draw.clauses 𝓤 H A mem run) known to
-        (and-then ! (copied ! 5 refl) (and-then ! (copied ! 3 refl) (and-then ! (copied ! 1 refl)
-        (and-then ! (copied ! 11 refl) (and-then ! (copied ! 9 refl) (and-then ! (copied ! 7 refl) (no-more !)))))))
+        (and-then ! (copied ! 3 refl) (and-then ! (copied ! 1 refl)
+        (and-then ! (copied ! 9 refl) (and-then ! (copied ! 7 refl) (and-then ! (copied ! 5 refl) (no-more !))))))
         found (λ t ws. refl) (λ u t e.
-        -- [the result; the tokens; _7; …; room for _0; …]
+        -- [the result; the tokens; _6; …; room for _0; …]
         peeks ! S.the-row (Is S.the-row) (shows 𝓤 H A S.the-row) t (u ∷ []) (λ is.
-        land ! (from ! (stop !)) (init ! 16 refl (EL.lawful S.the-type S′.the-laws 𝓤 H A W tt .typed t _ is .0)) $
-        returns ! (look ! 16 refl) $
-        freed ! 16 refl refl $ freed ! 14 refl refl $ freed ! 12 refl refl $ freed ! 10 refl refl $
+        land ! (from ! (stop !)) (init ! 14 refl (EL.lawful S.the-type S′.the-laws 𝓤 H A W tt .typed t _ is .0)) $
+        returns ! (look ! 14 refl) $
+        freed ! 14 refl refl $ freed ! 12 refl refl $ freed ! 10 refl refl $
         freed ! 8 refl refl $ freed ! 6 refl refl $ freed ! 4 refl refl $ freed ! 2 refl refl $ free0 ! $
-        by ! (ends-told 𝓤 H A W pixel.ended (pixel.clauses 𝓤 H A mem run) ((κs, qs, tt, x, at), tt) u t (tt, (tt, (tt, (tt, tt)))) (found t) refl e)))))))))))
+        by !
+        (ends-told 𝓤 H A W pixel.ended (pixel.clauses 𝓤 H A mem run) ((κs, qs, tt, x, at), tt) u t (tt, (tt, (tt, (tt, tt))))
+        (found t) refl e))))))))))
 
 pixel-meets : {M : Type 1} (𝓤 : URA M) (H : Heap 𝓤) (A : Atoms 𝓤) (W : Given 𝓤 H A)
     (mem : Memory → SProp 𝓤) (run : Routine → Fun 𝓤) (𝓣 : Tables 𝓤 H) → Triple 𝓤 (𝓣 .C #drawing·draw-pixel) (Draw 𝓤 H A mem run)
