@@ -66,7 +66,7 @@ uint64_t row_start(const uint32_t *words, uint64_t row) {
     return (field(words, LCD_LCDBANK) << 22) + 2 * (field(words, LCD_LCDBASEU) + row * row_length);
 }
 
-/* "BSWP = 1 reverses the four bytes first; HWSWP = 1 exchanges the halves first." */
+/* BSWP turns the bytes of a word round, HWSWP its two halves. */
 static uint32_t swapped(const uint32_t *words, uint32_t word) {
     uint32_t byte0 = word & 0xff, byte1 = word >> 8 & 0xff, byte2 = word >> 16 & 0xff, byte3 = word >> 24;
     if (field(words, LCD_BSWP) == 1)
@@ -80,7 +80,7 @@ static uint32_t bit_of(uint32_t number, uint64_t bit) {
     return number >> bit & 1;
 }
 
-/* "Inside a word the first pixel has the highest bits." */
+/* Pixels of a word go from its highest bits down. */
 static uint32_t stored_pixel(const uint32_t *words, const struct memory *memory, uint64_t row, uint64_t column) {
     uint64_t stored = stored_bits(words);
     uint64_t first = column * stored;
@@ -116,9 +116,9 @@ static uint32_t colour_of_24_bits(const uint32_t *words, uint32_t pixel) {
     return field(words, LCD_BPP24BL) == 1 ? to_lines(pixel, 31, 8, 23) : to_lines(pixel, 23, 0, 23);
 }
 
-/* "At 1 to 8 bits the pixel is an index." "If TPALEN is 1, every pixel is TPALVAL". */
+/* TPALVAL under TPALEN; else by the palette up to 8 bits, and by the stored bits themselves above. */
 uint32_t colour(const uint32_t *words, const struct memory *memory, const uint16_t *palette, uint64_t row,
-                       uint64_t column) {
+                uint64_t column) {
     if (field(words, LCD_TPALEN) == 1)
         return field(words, LCD_TPALVAL);
     uint32_t pixel = stored_pixel(words, memory, row, column);
@@ -156,8 +156,8 @@ uint64_t rate(const uint32_t *words, uint64_t hclk) {
     return hclk * 1000 / frame_ticks(words);
 }
 
-/* "In each line the parts come in the order sync, back porch, active, front porch; so do the lines of a frame. VSYNC is active
- * through all sync lines, HSYNC through the sync clocks of every line, VDEN where line and clock are both active." */
+/* A line is sync, back porch, active and front porch clocks, a frame the same parts in lines: VSYNC marks the sync lines, HSYNC the sync
+ * clocks, VDEN the active clocks of active lines. */
 struct clock clock_at(const uint32_t *words, uint64_t position) {
     uint64_t line = position / line_length(words), clock = position % line_length(words);
     uint64_t sync_lines = field(words, LCD_VSPW) + 1, sync_clocks = field(words, LCD_HSPW) + 1;

@@ -21,7 +21,7 @@ uint64_t height(const uint32_t *words);
 /* 0 where BPPMODE is no mode. */
 uint64_t stored_bits(const uint32_t *words);
 
-/* "Video memory is lent as 32-bit words, beginning at a byte address (the window start) that comes with it." */
+/* The lent words, and the byte address of the first. */
 struct memory {
     uint64_t start;
     const uint32_t *words;
