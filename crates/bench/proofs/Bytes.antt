@@ -1,4 +1,4 @@
--- A byte at its place in a wider number. Assumes nothing.
+-- A byte at its place in a wider number.
 use Prim.Native.Nat.{ℕ, _+_, _*_, _%_, _^_, _<_}
 use mathlib.Core.Path.{_≡_, ap, _∙_}
 use lib.Dec.{T, leb, lit≤}

@@ -1,5 +1,5 @@
 -- Worked examples of document 01 ("The bench", "Numbers of refusal"), tried on the definitions: both sides of each limit of refusal
--- 14, numbers low byte first, and the line of a row. Assumes nothing.
+-- 14, numbers low byte first, and the line of a row.
 use mathlib.Core.Bool.{true, false}
 use mathlib.Core.List.{List, [], _∷_}
 use mathlib.Core.Path.{_≡_, refl}

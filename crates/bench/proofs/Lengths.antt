@@ -1,4 +1,4 @@
--- What refusal 14 leaves of the lengths. Assumes nothing.
+-- What refusal 14 leaves of the lengths.
 use mathlib.Core.Bool.{false, not, _||_}
 use mathlib.Core.Path.{_≡_}
 use Prim.Native.Nat.{ℕ, _-_, _%_, _≤_}

@@ -1,4 +1,4 @@
--- The bytes of a row's line by column. Assumes nothing.
+-- The bytes of a row's line by column.
 use mathlib.Core.List.{List}
 use mathlib.Core.Path.{_≡_, refl, ap₂, _∙_}
 use Prim.Native.Nat.{ℕ, zero, suc, _+_, _-_, _*_, _^_, _<_}

@@ -1,5 +1,5 @@
 -- The bench's input (document 01, "The bench" and "Numbers of refusal"): which lengths are refused, and numbers stored low byte
--- first. Promises cite it, so a reader must believe it. Assumes nothing.
+-- first. Promises cite it, so a reader must believe it.
 use mathlib.Core.Bool.{Bool, not, _||_}
 use mathlib.Core.List.{List}
 use Prim.Native.Nat.{ℕ, zero, suc, _+_, _-_, _*_, _%_, _^_}

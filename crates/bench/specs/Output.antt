@@ -1,4 +1,4 @@
--- The line of a row (document 01, "The bench"), byte by byte. Promises cite it, so a reader must believe it. Assumes nothing.
+-- The line of a row (document 01, "The bench"), byte by byte. Promises cite it, so a reader must believe it.
 use mathlib.Core.Bool.{Bool, cond}
 use mathlib.Core.List.{List}
 use Prim.Native.Nat.{ℕ, _+_, _-_, _/_, _%_, _^_}

@@ -1,6 +1,6 @@
 -- The worked cases of document 01 (T1 of "The bench", T2 to T11 of "Both sides of the line"), "proved about the definitions as a
 -- single table under one claim". A row sets what the definitions give beside the paper's numbers. Each thing that rows ask for has a
--- name here, and its `unfolding` line names what it computes with: where it unfolds, so do they. Assumes nothing.
+-- name here, and its `unfolding` line names what it computes with: where it unfolds, so do they.
 use mathlib.Core.Bool.{Bool, true, false, _&&_}
 use mathlib.Core.List.{List, [], _∷_, map}
 use mathlib.Core.Path.{_≡_}

@@ -1,5 +1,5 @@
 -- What a format gives (document 01, "Where a pixel lies"): its size, its swaps, and how many pixels a word
--- holds. Assumes nothing.
+-- holds.
 use mathlib.Core.Bool.{Bool, true, false, cond, _||_, true≢false}
 use mathlib.Core.List.{List, [], _∷_}
 use mathlib.Core.Path.{_≡_, refl, sym, ap, ap₂, _∙_}

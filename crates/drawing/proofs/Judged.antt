@@ -1,5 +1,4 @@
 -- What an accepted drawing's judgement says of the rows in memory and of the slice that is drawn to (document 01, "Numbers of refusal").
--- Assumes nothing.
 use mathlib.Core.Bool.{Bool, false, not, _||_}
 use mathlib.Core.List.{[], _∷_}
 use mathlib.Core.Path.{_≡_, sym, ap, _∙_, subst}

@@ -1,5 +1,4 @@
 -- What is drawn by the format and a row's first word, and by a pixel's number in reading order (document 01, "Colours").
--- Assumes nothing.
 use mathlib.Core.List.{List}
 use mathlib.Core.Path.{_≡_, sym, ap, ap₂, _∙_}
 use Prim.Native.Nat.{ℕ, _/_, _%_}

@@ -1,5 +1,5 @@
 -- Reading order (document 01, "Colours": "one a pixel, row after row"): where a drawing that goes row by row stands, over plain
--- numbers. Assumes nothing.
+-- numbers.
 use mathlib.Core.Path.{_≡_, ap, _∙_}
 use Prim.Native.Nat.{ℕ, min, _+_, _-_, _*_, _/_, _%_, _<_, _≤_}
 use native.Mathlib.Nat.{add-mul, div-add-mod', mod-lt, mul-comm, div-lt-iff-lt-mul, lt-of-mul-lt-mul-right, div-le-of-le-mul}

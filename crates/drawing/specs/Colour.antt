@@ -1,5 +1,5 @@
 -- The colour of a pixel (document 01, "Where a pixel lies" and "Colours"): the one definition that every drawing cites. It is total:
--- a word or an entry that is not lent counts as 0. Promises cite it, so a reader must believe it. Assumes nothing.
+-- a word or an entry that is not lent counts as 0. Promises cite it, so a reader must believe it.
 use mathlib.Core.Bool.{Bool, cond}
 use mathlib.Core.List.{List}
 use Prim.Native.Nat.{ℕ, _+_, _/_, _%_}

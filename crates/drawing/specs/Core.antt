@@ -1,4 +1,4 @@
--- What the private functions of drawing ask and leave. A reader of the promises need not believe any of it. Assumes nothing.
+-- What the private functions of drawing ask and leave. A reader of the promises need not believe any of it.
 use mathlib.Core.Bool.{Bool, true, false, not, _&&_}
 use mathlib.Core.List.{List}
 use mathlib.Core.Path.{_≡_}

@@ -1,5 +1,5 @@
 -- The calls that draw (document 01, "Colours" and "Numbers of refusal"): what each is judged by, and what it gives. The words
--- are handed in by value: a slice short of nine has drawn 10 before. Promises cite it, so a reader must believe it. Assumes nothing.
+-- are handed in by value: a slice short of nine has drawn 10 before. Promises cite it, so a reader must believe it.
 use mathlib.Core.Bool.{Bool, false, not, _||_}
 use mathlib.Core.List.{List, [], _∷_, _++_}
 use Prim.Native.Nat.{ℕ, _+_, _-_, _*_, _/_, _%_, min}

@@ -1,5 +1,5 @@
 -- The order of the 34 writable fields in a lent slice (document 01, "The nine words"): word after word in their order, the fields of
--- a word from its highest bits down. Promises cite it, so a reader must believe it. Assumes nothing.
+-- a word from its highest bits down. Promises cite it, so a reader must believe it.
 use mathlib.Core.List.{List, _++_}
 use Prim.Native.Nat.{ℕ}
 use lib.ListN.{getD}

@@ -1,6 +1,6 @@
 -- Fields written and read back are the same (demand 2), entry by entry: where the writer takes a slice of fields, reading the words
 -- that it left gives the first 34 entries again. The claim is `entries-written-and-read`; it is proved here, and nothing need be
--- believed beyond the definitions that it names. Assumes nothing.
+-- believed beyond the definitions that it names.
 use mathlib.Core.List.{List, [], _∷_}
 use mathlib.Core.Path.{_≡_, sym, ap, _∙_}
 use Prim.Native.Nat.{ℕ, _≤_}

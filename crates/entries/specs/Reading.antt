@@ -1,5 +1,5 @@
 -- Reading the fields to a lent slice (document 01, "The nine words" and "Numbers of refusal"). Promises cite it, so a reader must
--- believe it. Assumes nothing.
+-- believe it.
 use mathlib.Core.List.{List}
 use Prim.Native.Nat.{ℕ}
 use Rattle.laws.specs.Answers.{Outcome, outcomeOn}

@@ -1,5 +1,5 @@
 -- Writing words from a lent slice of fields to another one (document 01, "The nine words" and "Numbers of refusal"). Promises cite
--- it, so a reader must believe it. Assumes nothing.
+-- it, so a reader must believe it.
 use mathlib.Core.Bool.{Bool, _||_}
 use mathlib.Core.List.{List, [], _∷_}
 use Prim.Native.Nat.{ℕ}

@@ -1,5 +1,5 @@
 -- T9 of document 01 ("Both sides of the line"), tried on the definitions: the nine words of the 240 by 320 panel from its
--- fields and back, and one field a bit too wide. Assumes nothing.
+-- fields and back, and one field a bit too wide.
 use mathlib.Core.Path.{_≡_, refl}
 use Prim.Native.Nat.{ℕ}
 use Rattle.laws.specs.Answers.{accepted, refused, judged}

@@ -1,4 +1,4 @@
--- Fields that are not too wide fit, word by word: what packing asks (document 01, refusal 12). Assumes nothing.
+-- Fields that are not too wide fit, word by word: what packing asks (document 01, refusal 12).
 use mathlib.Core.Bool.{false}
 use mathlib.Core.Path.{_≡_}
 use Rattle.laws.specs.BitFieldLaws.{all-fit}

@@ -1,5 +1,5 @@
 -- Reading the fields of the nine words (document 01, "The nine words"): judged by refusal 1 alone. Promises cite it, so a reader must
--- believe it. Assumes nothing.
+-- believe it.
 use mathlib.Core.List.{[], _∷_}
 use Rattle.laws.specs.Answers.{Answer, accepted, refused, judged}
 use Rattle.laws.specs.Cases.{_when_, lowest}

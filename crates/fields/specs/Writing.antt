@@ -1,5 +1,5 @@
 -- The writer (document 01, "The nine words"): words from fields, read-only bits 0; judged by refusal 12 alone. Promises cite it, so a
--- reader must believe it. Assumes nothing.
+-- reader must believe it.
 use mathlib.Core.Bool.{Bool}
 use mathlib.Core.List.{List, [], _∷_}
 use Prim.Native.Nat.{ℕ}

@@ -1,5 +1,5 @@
 -- The two outcomes of a step in place: refused, the answer is the number and the state is as it was; accepted, the answer is the clock
--- and the state is the next one. And what lies there after a list of calls goes on as the claim of demand 3 folds it. Assumes nothing.
+-- and the state is the next one. And what lies there after a list of calls goes on as the claim of demand 3 folds it.
 use mathlib.Core.Path.{_≡_, refl, ap, ap₂}
 use Prim.Native.Nat.{ℕ}
 use Rattle.laws.specs.Answers.{accepted, refused, orElse}

@@ -1,5 +1,5 @@
 -- What a step in place leaves (document 01, "The bench"): "a step that changes a state where it lies". It is the by-value step's answer,
--- and the state that the next call of a list gets. Promises cite it, so a reader must believe it. Assumes nothing.
+-- and the state that the next call of a list gets. Promises cite it, so a reader must believe it.
 use Rattle.laws.specs.Answers.{Answer, accepted, refused, mapped}
 use Rattle.drawing.specs.Colour.{Lent}
 use Rattle.scanout.specs.Calls.{step}

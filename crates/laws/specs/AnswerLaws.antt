@@ -1,4 +1,4 @@
--- Laws of answers, refusals and what a call leaves: one set for every call. A reader need not believe them. Assumes nothing.
+-- Laws of answers, refusals and what a call leaves: one set for every call. A reader need not believe them.
 use mathlib.Core.Bool.{Bool, true, false}
 use mathlib.Core.List.{List, [], _∷_}
 use mathlib.Core.Path.{_≡_, refl, sym, ap, _∙_}

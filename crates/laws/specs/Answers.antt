@@ -1,6 +1,6 @@
 -- What a call of the model gives (document 01, "Numbers of refusal"): an answer, or the number of a refusal and nothing else.
 -- The enum of each call is read as one of these. Promises cite these definitions, so a reader must believe them; their laws are in
--- AnswerLaws. Assumes nothing.
+-- AnswerLaws.
 use mathlib.Core.List.{List}
 use Prim.Native.Nat.{ℕ, zero, suc}
 

@@ -1,5 +1,5 @@
 -- Laws of packed words: values that fit, packed and read, a word read and packed, each by one induction over the layout (document 01,
--- "The nine words"; demand 2). A reader need not believe them. Assumes nothing.
+-- "The nine words"; demand 2). A reader need not believe them.
 use mathlib.Core.Bool.{false, _&&_}
 use mathlib.Core.List.{List, [], _∷_}
 use mathlib.Core.Path.{_≡_, refl, sym, ap, ap₂, _∙_}

@@ -1,6 +1,6 @@
 -- A word's layout (document 01, "The nine words"): a list of spans from bit 31 down, each free, read-only or reserved.
 -- Fields, widths, reserved bits and packing follow from the list alone. Promises cite these definitions, so a reader must believe
--- them; their laws are in BitFieldLaws. Assumes nothing.
+-- them; their laws are in BitFieldLaws.
 use mathlib.Core.Bool.{Bool, false, _&&_, _||_}
 use mathlib.Core.List.{List, [], _∷_}
 use Prim.Native.Nat.{ℕ, suc, _+_, _-_, _*_, _/_, _%_, _^_}

@@ -1,5 +1,5 @@
 -- Laws of numbered conditions: the first that holds where numbers rise, what acceptance says, lists that are joined. A reader need
--- not believe them. Assumes nothing.
+-- not believe them.
 use mathlib.Core.Path.{_≡_, refl, sym, ap, ap₂, _∙_}
 use mathlib.Core.Bool.{Bool, true, false, cond, _&&_}
 use mathlib.Core.List.{List, [], _∷_, _++_}

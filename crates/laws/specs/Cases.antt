@@ -1,6 +1,6 @@
 -- Numbered conditions (document 01, "Numbers of refusal"): "The lowest number that applies to the call is given."
 -- A call's judgement is a list of cases, each a condition with its number; lists join by ++. Promises cite these definitions, so a
--- reader must believe them; their laws are in CaseLaws. Assumes nothing.
+-- reader must believe them; their laws are in CaseLaws.
 use mathlib.Core.Bool.{Bool, cond}
 use mathlib.Core.List.{List, [], _∷_}
 use Prim.Native.Nat.{ℕ, zero, suc, min}

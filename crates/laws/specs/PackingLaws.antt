@@ -1,5 +1,5 @@
 -- Laws of the fields of a number, cut out by masks, moved by shifts and joined by `|` from the lowest on, as the sum that they are.
--- Widths and places are numerals at each use, so the side conditions compute. A reader need not believe them. Assumes nothing.
+-- Widths and places are numerals at each use, so the side conditions compute. A reader need not believe them.
 use mathlib.Core.Path.{_≡_, sym, ap, _∙_}
 use Prim.Native.Nat.{ℕ, _+_, _-_, _*_, _/_, _%_, _^_, _<_}
 use native.Mathlib.Nat.{add-zero, mul-assoc, mul-mod-left, mod-lt, lt-of-lt-of-le}

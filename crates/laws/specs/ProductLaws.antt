@@ -1,4 +1,4 @@
--- Laws of products: bounds, with every number written out so that `omega` can take them. A reader need not believe them. Assumes nothing.
+-- Laws of products: bounds, with every number written out so that `omega` can take them. A reader need not believe them.
 use Prim.Native.Nat.{ℕ, _*_, _≤_}
 use native.Mathlib.Nat.{mul-le-mul}
 

@@ -1,4 +1,4 @@
--- Laws of shifts and masks of 32-bit numbers as arithmetic. A reader need not believe them. Assumes nothing.
+-- Laws of shifts and masks of 32-bit numbers as arithmetic. A reader need not believe them.
 use mathlib.Core.Bool.{Bool, true, false, _||_}
 use mathlib.Core.Path.{_≡_, refl, ap, ap₂, sym, _∙_}
 use Prim.Native.Nat.{ℕ, zero, suc, _+_, _-_, _*_, _/_, _%_, _^_, _<_, _≤_}

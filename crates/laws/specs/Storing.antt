@@ -1,5 +1,5 @@
 -- Storing into a lent slice (document 01, "Colours": entries are filled one after another, the others stay). Promises cite it, so a
--- reader must believe it; its laws are in StoringLaws. Assumes nothing.
+-- reader must believe it; its laws are in StoringLaws.
 use mathlib.Core.List.{List}
 use Prim.Native.Nat.{ℕ, zero, suc, _+_}
 use lib.ListN.{set}

@@ -1,5 +1,5 @@
 -- Laws of storing into a lent slice: entry by entry, and of a loop that stores one entry a turn or lets another function store some.
--- A reader need not believe them. Assumes nothing.
+-- A reader need not believe them.
 use mathlib.Core.List.{List}
 use mathlib.Core.Path.{_≡_, refl, ap, _∙_}
 use Prim.Native.Nat.{ℕ, zero, suc, _+_, _<_, _≤_}

@@ -1,5 +1,5 @@
 -- What walks by hand share (the kit's guide, "The walk, from the entry to the exit"): steps that several take, and a walk whose
--- parameters are all given up. A reader need not believe them. Assumes nothing.
+-- parameters are all given up. A reader need not believe them.
 use mathlib.Core.Path.{_≡_, sym, subst}
 use Prim.Native.Nat.{ℕ, zero}
 use mathlib.Core.List.{List, [], _∷_}

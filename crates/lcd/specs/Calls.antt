@@ -1,5 +1,5 @@
 -- A row and the picture for C (document 01, "The bench" and "Numbers of refusal"): the words come as a slice, and 10 for one short of
--- nine stands before all. Each call returns a number, 0 where it is done. Promises cite it, so a reader must believe it. Assumes nothing.
+-- nine stands before all. Each call returns a number, 0 where it is done. Promises cite it, so a reader must believe it.
 use mathlib.Core.List.{List}
 use Prim.Native.Nat.{ℕ}
 use Rattle.laws.specs.Answers.{Outcome, outcomeOn}

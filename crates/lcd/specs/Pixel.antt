@@ -1,5 +1,5 @@
 -- One pixel for C (document 01, "Where a pixel lies" and "Numbers of refusal"): its colour goes to a lent slice.
--- Promises cite it, so a reader must believe it. Assumes nothing.
+-- Promises cite it, so a reader must believe it.
 use mathlib.Core.List.{List}
 use Prim.Native.Nat.{ℕ}
 use lib.ListN.{length, set}

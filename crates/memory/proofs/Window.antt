@@ -1,6 +1,5 @@
 -- Refusal 8 in closed form, and what its absence gives (document 01, "Where a pixel lies", "Numbers of refusal"): all words of all
 -- rows lie in the lent memory exactly when the first row does not start before it and the last does not end after it.
--- Assumes nothing.
 use mathlib.Core.Bool.{Bool, true, false, not, _||_, true≢false}
 use mathlib.Core.Path.{_≡_, refl, sym, ap, _∙_}
 use Prim.Native.Nat.{ℕ, _+_, _-_, _*_, _/_, _%_, _^_, _≤_}

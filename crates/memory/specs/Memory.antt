@@ -1,6 +1,6 @@
 -- The lent video memory (document 01, "Where a pixel lies" and refusal 8). It is lent as 32-bit words; the byte address of the first,
 -- the window start, is given with the nine words. Addresses are plain numbers and never wrap.
--- Promises cite it, so a reader must believe it. Assumes nothing.
+-- Promises cite it, so a reader must believe it.
 use mathlib.Core.Bool.{Bool, not, _||_}
 use mathlib.Core.List.{List, [], _∷_, _++_}
 use Prim.Native.Nat.{ℕ, _+_, _-_, _*_, _/_, _%_, _^_}

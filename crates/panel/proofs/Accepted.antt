@@ -1,5 +1,4 @@
 -- What acceptance by 1 to 7 gives (document 01, "Numbers of refusal"): the facts that the floors above build on, each once.
--- Assumes nothing.
 use mathlib.Core.Bool.{Bool, true, false, not, _&&_, _||_, true≢false, false≢true}
 use mathlib.Core.Path.{_≡_, sym, ap, _∙_}
 use Prim.Native.Nat.{ℕ, _+_, _-_, _*_, _/_, _%_, _^_, _<_, _≤_}

@@ -1,5 +1,5 @@
 -- Bounds of every size that the fields can give, whatever the words (document 01, "The nine words"; demand 1: nothing
--- overflows). Assumes nothing.
+-- overflows).
 use Prim.Native.Nat.{ℕ, _+_, _*_, _≤_, _^_}
 use native.Mathlib.Omega.{arith}
 use Rattle.laws.specs.ProductLaws.{product-le}

@@ -1,6 +1,6 @@
 -- Worked examples of document 01 ("The bench", "Both sides of the line", "Numbers of refusal"), tried on the definitions: T1's
 -- counts, T8, T11, the extremes of ticks and rate, the rate that a rounded pixel clock would miss, and both sides of each
--- refusal. Their numbers are worked out by hand from the paper. Assumes nothing.
+-- refusal. Their numbers are worked out by hand from the paper.
 use mathlib.Core.Bool.{Bool, true, false, _&&_}
 use mathlib.Core.List.{List, [], _∷_}
 use mathlib.Core.Path.{_≡_, refl, ap, ap₂, _∙_}

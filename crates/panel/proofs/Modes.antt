@@ -1,4 +1,4 @@
--- The mode table (document 01, "The nine words"): what lies outside 8..13, and what the modes inside select. Assumes nothing.
+-- The mode table (document 01, "The nine words"): what lies outside 8..13, and what the modes inside select.
 use mathlib.Core.Bool.{Bool, true, false, _&&_, and-eq-true-iff}
 use mathlib.Core.List.{[], _∷_}
 use mathlib.Core.Path.{_≡_, refl, sym}

@@ -1,5 +1,5 @@
 -- Counts and rate (document 01, "Clocks and lines"): judged by 1 to 7, after 10 for a slice short of nine words. Promises cite it, so
--- a reader must believe it. Assumes nothing.
+-- a reader must believe it.
 use mathlib.Core.List.{List}
 use Prim.Native.Nat.{ℕ, _+_, _*_, _/_}
 use Rattle.laws.specs.Answers.{Answer, accepted, refused, mapped}

@@ -1,5 +1,5 @@
 -- The panel's size, the stored bits of a pixel and where a row starts (document 01, "The nine words" and "Where a pixel lies").
--- Promises cite it, so a reader must believe it. Assumes nothing.
+-- Promises cite it, so a reader must believe it.
 use mathlib.Core.Bool.{Bool, not, cond, _&&_}
 use mathlib.Core.List.{[], _∷_}
 use Prim.Native.Nat.{ℕ, _+_, _-_, _*_}

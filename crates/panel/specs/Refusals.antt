@@ -1,5 +1,5 @@
 -- The conditions numbered 2 to 7, and 9 (document 01, "Numbers of refusal"), and the judgement by 1 to 7, which leaves 9 to others.
--- Promises cite it, so a reader must believe it. Assumes nothing.
+-- Promises cite it, so a reader must believe it.
 use mathlib.Core.Bool.{Bool, not, _&&_, _||_}
 use mathlib.Core.List.{List, [], _∷_}
 use Prim.Native.Nat.{ℕ, _+_, _-_, _*_, _%_, _^_}

@@ -1,5 +1,5 @@
 -- Clocks and lines of a frame (document 01, "Clocks and lines"), over the eight fields that set them. Each part is a field + 1, so
--- none is 0. Promises cite it, so a reader must believe it. Assumes nothing.
+-- none is 0. Promises cite it, so a reader must believe it.
 use Prim.Native.Nat.{ℕ, _+_, _*_}
 use Rattle.registers.specs.Fields as Fields
 use Rattle.registers.specs.declared.Words.{Words}

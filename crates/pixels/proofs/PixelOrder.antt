@@ -1,4 +1,4 @@
--- Laws of pixel order (document 01, "Where a pixel lies"): pixels of a word, by shifts too, and words with a swap. Assumes nothing.
+-- Laws of pixel order (document 01, "Where a pixel lies"): pixels of a word, by shifts too, and words with a swap.
 use mathlib.Core.Bool.{Bool, true, false}
 use mathlib.Core.Path.{_≡_, sym, ap, ap₂, _∙_}
 use Prim.Native.Nat.{ℕ, _+_, _-_, _*_, _/_, _%_, _^_, _<_, _≤_}

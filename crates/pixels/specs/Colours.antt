@@ -1,5 +1,5 @@
 -- Colours (document 01, "Colours"): the 24 lines VD23..VD0 as a number. "Unused lines are 0 (house)."
--- Promises cite it, so a reader must believe it. Assumes nothing.
+-- Promises cite it, so a reader must believe it.
 use mathlib.Core.Bool.{Bool, cond}
 use Prim.Native.Nat.{ℕ, suc, _+_, _-_, _*_, _/_, _%_, _^_}
 use Rattle.pixels.specs.declared.colours.Expansion.{Expansion}

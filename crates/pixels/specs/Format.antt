@@ -1,5 +1,5 @@
 -- What the words say about the meaning of a pixel's bits (document 01, "Where a pixel lies" and "Colours"), in one record.
--- Promises cite it, so a reader must believe it. Assumes nothing.
+-- Promises cite it, so a reader must believe it.
 use mathlib.Core.Bool.{cond}
 use lib.Dec.{eqb}
 use Rattle.registers.specs.Fields as Fields

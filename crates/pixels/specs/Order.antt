@@ -1,5 +1,5 @@
 -- Pixel order (document 01, "Where a pixel lies"): which bits of a word are its pixel k.
--- Promises cite it, so a reader must believe it. Assumes nothing.
+-- Promises cite it, so a reader must believe it.
 use mathlib.Core.Bool.{Bool, cond}
 use Prim.Native.Nat.{ℕ, _+_, _-_, _*_, _/_, _%_, _^_}
 

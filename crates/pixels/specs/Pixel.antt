@@ -1,5 +1,5 @@
 -- What the stored bits of a pixel show (document 01, "Where a pixel lies" and "Colours").
--- Promises cite it, so a reader must believe it. Assumes nothing.
+-- Promises cite it, so a reader must believe it.
 use mathlib.Core.Bool.{cond}
 use mathlib.Core.List.{List}
 use Prim.Native.Nat.{ℕ}

@@ -1,5 +1,5 @@
 -- What a reader holds, and what a lookup gives (document 01, "The bench"): "a thin reader that keeps hold of the lent video words and
--- answers by row and column". Promises cite it, so a reader must believe it. Assumes nothing.
+-- answers by row and column". Promises cite it, so a reader must believe it.
 use mathlib.Core.List.{List}
 use Prim.Native.Nat.{ℕ}
 use denote.Ref.{RefT, now}

@@ -1,4 +1,4 @@
--- The layouts of the nine words leave no bit out and take none twice (document 01, "The nine words"). Assumes nothing.
+-- The layouts of the nine words leave no bit out and take none twice (document 01, "The nine words").
 use mathlib.Core.Bool.{_&&_}
 use lib.Dec.{T}
 use Rattle.laws.specs.BitFields.{tiles}

@@ -1,5 +1,5 @@
 -- Each field of the nine words by name, and refusal 1 (document 01, "The nine words"). A word's bits are given in Layouts. Promises
--- cite it, so a reader must believe it. Assumes nothing.
+-- cite it, so a reader must believe it.
 use mathlib.Core.Bool.{Bool}
 use mathlib.Core.List.{List, [], _∷_}
 use Prim.Native.Nat.{ℕ}

@@ -1,6 +1,6 @@
 -- The nine words bit by bit (document 01, "The nine words"), in the paper's order and with its numbers: each field once, by its
 -- highest and lowest bit, and each word as one list from bit 31 down. "All other bits are reserved." Promises cite it, so a reader
--- must believe it. Assumes nothing.
+-- must believe it.
 use mathlib.Core.List.{List, [], _∷_}
 use Rattle.laws.specs.BitFields.{Span, free, readOnly, reserved}
 

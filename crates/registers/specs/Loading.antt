@@ -1,5 +1,5 @@
 -- The nine words lent as a slice, and numbers put to one (document 01, "The nine words"); 10 for a slice that has too few entries
--- ("Numbers of refusal"). Promises cite it, so a reader must believe it. Assumes nothing.
+-- ("Numbers of refusal"). Promises cite it, so a reader must believe it.
 use mathlib.Core.Bool.{Bool}
 use mathlib.Core.List.{List, [], _∷_}
 use Prim.Native.Nat.{ℕ}

@@ -1,5 +1,5 @@
 -- What an accepted step or run tells (document 01, "Numbers of refusal"): the next clock's view can be drawn from, the position lies
--- in the frame, and the state one clock on is accepted too. Assumes nothing.
+-- in the frame, and the state one clock on is accepted too.
 use mathlib.Core.Bool.{Bool, false, not, _||_}
 use mathlib.Core.List.{List, [], _∷_}
 use mathlib.Core.Path.{_≡_, refl, ap, _∙_}

@@ -1,4 +1,4 @@
--- What an accepted run draws by the stretch of `drawing` (document 01, "Clocks and lines"). Assumes nothing.
+-- What an accepted run draws by the stretch of `drawing` (document 01, "Clocks and lines").
 use mathlib.Core.List.{List}
 use mathlib.Core.Path.{_≡_, sym, ap, _∙_}
 use Prim.Native.Nat.{ℕ, min, _+_, _-_, _≤_}

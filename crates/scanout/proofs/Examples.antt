@@ -1,5 +1,5 @@
 -- The scan of T1's panel, clock by clock, and some clocks of T8's (document 01, "Clocks and lines"): the levels, the frame's length and the
--- formula stand in the claim and in the machine alike, so they are held against numbers worked out by hand here. Assumes nothing.
+-- formula stand in the claim and in the machine alike, so they are held against numbers worked out by hand here.
 use mathlib.Core.List.{List, [], _∷_, _++_}
 use mathlib.Core.Path.{_≡_, refl}
 use Prim.Native.Nat.{ℕ, zero, suc}

@@ -1,5 +1,5 @@
 -- Demand 3 (document 01, "Clocks and lines"), proved of every list of calls and every state at position 0, a start's among them; and
--- that a run leaves the state that as many accepted single steps leave. Assumes nothing.
+-- that a run leaves the state that as many accepted single steps leave.
 use mathlib.Core.Bool.{false}
 use mathlib.Core.List.{List}
 use mathlib.Core.Logic.{_⊎_, inl, inr}

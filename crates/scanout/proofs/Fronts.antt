@@ -1,5 +1,5 @@
 -- The front of a list of calls (document 01, "Clocks and lines"): what was taken by it stays taken, and the calls before a clock that
--- it took are the same in the whole list. These laws never look into a call. Assumes nothing.
+-- it took are the same in the whole list. These laws never look into a call.
 use mathlib.Core.Bool.{Bool, true, false, false≢true}
 use mathlib.Core.Logic.{inl, inr}
 use mathlib.Core.Path.{_≡_, refl, ap}

@@ -1,5 +1,5 @@
 -- One picture lent to all accepted runs of a list (document 01, "Clocks and lines"): "after the list each entry holds the colour of its
--- pixel's last clock that a run took; entries with no such clock are as they began". Assumes nothing.
+-- pixel's last clock that a run took; entries with no such clock are as they began".
 use mathlib.Core.List.{List}
 use mathlib.Core.Logic.{_⊎_, inl, inr}
 use mathlib.Core.Path.{_≡_, refl, sym, ap, _∙_}

@@ -1,5 +1,5 @@
 -- The schedule of the views over a list of calls (document 01, "Clocks and lines"): where the position stands, which view waits, and that
--- in mid-frame the view in force is the frame's. Assumes nothing.
+-- in mid-frame the view in force is the frame's.
 use mathlib.Core.Path.{_≡_, refl, sym, ap, ap₂, _∙_}
 use Prim.Native.Nat.{ℕ, zero, suc, _+_, _*_, _/_, _%_, _<_, _≤_}
 use native.Mathlib.Decide.{ℕ-discrete, decLt}

@@ -1,4 +1,4 @@
--- What the accepted steps of a list show (document 01, "Clocks and lines"). Assumes nothing.
+-- What the accepted steps of a list show (document 01, "Clocks and lines").
 use mathlib.Core.Bool.{Bool, true, false, true≢false}
 use mathlib.Core.Path.{_≡_, refl, sym, ap, ap₂, _∙_}
 use Prim.Native.Nat.{ℕ, _+_, _/_, _%_, _^_, _<_}

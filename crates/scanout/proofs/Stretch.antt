@@ -1,5 +1,5 @@
 -- The active clocks of a run are a stretch of the picture (document 01, "Clocks and lines"): what clock by clock would store inside one
--- frame is what drawing the pixels between two clocks, in reading order, stores. Assumes nothing.
+-- frame is what drawing the pixels between two clocks, in reading order, stores.
 use mathlib.Core.List.{List}
 use mathlib.Core.Path.{_≡_, sym, ap, ap₂, _∙_}
 use Prim.Native.Nat.{ℕ, zero, suc, _+_, _-_, _*_, _/_, _%_, _<_, _≤_}

@@ -1,5 +1,5 @@
 -- The state through a frame (document 01, "Clocks and lines"): the waiting view comes into force with clock 0 and stays in force to the
--- frame's end, and nothing but the view ever changes in the words. Assumes nothing.
+-- frame's end, and nothing but the view ever changes in the words.
 use mathlib.Core.Bool.{Bool, true, false, cond}
 use mathlib.Core.Path.{_≡_, refl, sym, ap, ap₂, _∙_}
 use Prim.Native.Nat.{ℕ, zero, suc, _+_, _%_, _<_, _≤_}

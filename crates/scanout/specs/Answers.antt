@@ -1,4 +1,4 @@
--- The paper's number and values of each answer. Promises cite it, so a reader must believe it. Assumes nothing.
+-- The paper's number and values of each answer. Promises cite it, so a reader must believe it.
 use Prim.Native.Nat.{ℕ}
 use Rattle.laws.specs.Answers.{Answer, accepted, refused}
 use Rattle.signals.specs.declared.clock.Clock.{Clock}

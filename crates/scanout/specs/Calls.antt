@@ -1,5 +1,5 @@
 -- The four calls of a scan (document 01, "Clocks and lines"): what each gives, refused or not. The promises of the code cite these,
--- and the claim of FrameByFrame folds them. Promises cite it, so a reader must believe it. Assumes nothing.
+-- and the claim of FrameByFrame folds them. Promises cite it, so a reader must believe it.
 use mathlib.Core.Bool.{false}
 use mathlib.Core.List.{List}
 use Prim.Native.Nat.{ℕ, zero, suc, _+_, _-_, _*_, min}

@@ -1,4 +1,4 @@
--- What a private function of the scan leaves. A reader of the promises need not believe it. Assumes nothing.
+-- What a private function of the scan leaves. A reader of the promises need not believe it.
 use Prim.Native.Nat.{ℕ, _+_, _%_}
 use Rattle.scanout.specs.State.{frameOf, shownScreen}
 use Rattle.scanout.specs.declared.state.State.{State}

@@ -2,7 +2,7 @@
 -- taken make frame after frame; each panel pixel appears exactly at the clock that the formula gives, with its colour under the
 -- frame's view; every other clock is blank". One record holds the whole claim; proofs/FrameByFrame proves it of every list and of
 -- every state at position 0. "Each may be lent any memory, palette and picture."
--- It is the claim, so a reader must believe it. Assumes nothing.
+-- It is the claim, so a reader must believe it.
 use mathlib.Core.Bool.{true, false}
 use mathlib.Core.List.{List}
 use mathlib.Core.Path.{_≡_}

@@ -1,6 +1,6 @@
 -- Lists of calls (document 01, "Clocks and lines"): "Demand 3 is a single claim about the whole list". "Each gets the state that the
 -- call before returned, after a refusal the old one; nobody else writes it."
--- The claim is stated over it, so a reader must believe it. Assumes nothing.
+-- The claim is stated over it, so a reader must believe it.
 use mathlib.Core.Bool.{cond}
 use mathlib.Core.List.{List, []}
 use mathlib.Core.Logic.{_⊎_}

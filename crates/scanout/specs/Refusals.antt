@@ -1,6 +1,6 @@
 -- What start, step, run and viewport change are judged by (document 01, "Numbers of refusal"). "A check in step, run or view change
 -- covers the view in force, the waiting view and the new one, each as if it stood in the nine words."
--- Promises cite it, so a reader must believe it. Assumes nothing.
+-- Promises cite it, so a reader must believe it.
 use mathlib.Core.Bool.{Bool, not, _||_}
 use mathlib.Core.List.{List, [], _∷_, _++_}
 use Prim.Native.Nat.{ℕ}

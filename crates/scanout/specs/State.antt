@@ -1,6 +1,6 @@
 -- The state of a scan (document 01, "Clocks and lines"): "the nine words in force, the window start, the waiting view (LCDSADDR1 and
 -- 2) and the position". A view is a `Viewport`; the waiting view is `pending`.
--- Promises cite it, so a reader must believe it. Assumes nothing.
+-- Promises cite it, so a reader must believe it.
 use mathlib.Core.Bool.{cond}
 use Prim.Native.Nat.{ℕ, zero, suc, _+_, _%_}
 use lib.Dec.{eqb}

@@ -1,4 +1,4 @@
--- Laws that the proofs of the scan's calls share. Assumes nothing.
+-- Laws that the proofs of the scan's calls share.
 use mathlib.Core.Bool.{Bool, true, false, true≢false}
 use mathlib.Core.List.{List}
 use mathlib.Core.Path.{_≡_, refl, sym, ap, _∙_}

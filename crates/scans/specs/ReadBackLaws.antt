@@ -1,6 +1,5 @@
 -- The scan's slice keeps the state (document 01, "Clocks and lines"): the state that an accepted call stores in a slice of 13 entries
 -- is the one that the next call reads there. It is proved here, and nothing need be believed beyond the definitions that it names.
--- Assumes nothing.
 use mathlib.Core.List.{List}
 use mathlib.Core.Path.{_≡_, refl, sym, _∙_}
 use Prim.Native.Nat.{ℕ, _<_, _≤_}

@@ -1,5 +1,5 @@
 -- The scan in lent slices (document 01, "Clocks and lines" and "Numbers of refusal"). Its state is 13 entries; where the slice has
--- fewer, no state can be read, and 10 stands before all. Promises cite it, so a reader must believe it. Assumes nothing.
+-- fewer, no state can be read, and 10 stands before all. Promises cite it, so a reader must believe it.
 use mathlib.Core.Bool.{Bool, _||_}
 use mathlib.Core.List.{List, [], _∷_, _++_}
 use Prim.Native.Nat.{ℕ}

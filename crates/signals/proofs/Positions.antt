@@ -1,5 +1,5 @@
 -- Which clock shows which pixel (document 01, "Clocks and lines"): a position shows the pixel in row r, column c exactly where the
--- formula gives it. Only these laws and those of ReadingOrder open the definitions of the parts. Assumes nothing.
+-- formula gives it. Only these laws and those of ReadingOrder open the definitions of the parts.
 use mathlib.Core.Bool.{Bool, true, false, cond}
 use mathlib.Core.Path.{_≡_, refl, sym, ap, ap₂, _∙_}
 use Prim.Native.Nat.{ℕ, _+_, _-_, _*_, _/_, _%_, _<_, _≤_}

@@ -1,5 +1,5 @@
 -- The pixels of a frame come in reading order (document 01, "Clocks and lines"): before the clock of the pixel in row r, column c
--- come r × W + c pixels, one more after it, and a blank clock adds none. Assumes nothing.
+-- come r × W + c pixels, one more after it, and a blank clock adds none.
 use mathlib.Core.Path.{_≡_, refl, sym, ap, ap₂, _∙_}
 use Prim.Native.Nat.{ℕ, zero, suc, _+_, _-_, _*_, _/_, _%_, _<_, _≤_}
 use native.Mathlib.Decide.{decLt}

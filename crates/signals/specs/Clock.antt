@@ -1,4 +1,4 @@
--- The four signals at a clock (document 01, "Clocks and lines"). Promises cite it, so a reader must believe it. Assumes nothing.
+-- The four signals at a clock (document 01, "Clocks and lines"). Promises cite it, so a reader must believe it.
 use mathlib.Core.Bool.{Bool, true, false, not, cond}
 use Prim.Native.Nat.{ℕ, _-_, _%_, _^_}
 use lib.Dec.{eqb}

@@ -1,5 +1,5 @@
 -- How the code counts the pixels before a clock: by lines and columns, not clock by clock. A reader of the promises need not believe
--- any of it: that the count is the same is a law (`counted-by-lines`, proofs/ReadingOrder). Assumes nothing.
+-- any of it: that the count is the same is a law (`counted-by-lines`, proofs/ReadingOrder).
 use mathlib.Core.Bool.{cond}
 use Prim.Native.Nat.{ℕ, _+_, _-_, _*_, _/_, _%_, min}
 use lib.Dec.{ltb}

@@ -1,6 +1,5 @@
 -- The parts of a line and of a frame (document 01, "Clocks and lines"): "In each line the parts come in the order sync, back porch,
 -- active, front porch; so do the lines of a frame." Clocks and lines count from 0. Promises cite it, so a reader must believe it.
--- Assumes nothing.
 use mathlib.Core.Bool.{cond}
 use Prim.Native.Nat.{ℕ, _+_, _-_, _/_, _%_}
 use lib.Dec.{ltb}

@@ -1,5 +1,5 @@
 -- The pixel that a clock shows (document 01, "Clocks and lines"), and how many pixels of a frame come before a clock. Promises cite
--- it, so a reader must believe it. Assumes nothing.
+-- it, so a reader must believe it.
 use Prim.Native.Nat.{ℕ, zero, suc, _+_, _*_}
 use Rattle.panel.specs.Timing.{Timing, lineClocks}
 use Rattle.signals.specs.Parts.{linesBefore, clocksBefore, linePart, clockPart}

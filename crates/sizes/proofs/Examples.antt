@@ -1,4 +1,4 @@
--- The sizes held against numbers from outside: those of T8's panel, and of one whose parts all differ. Assumes nothing.
+-- The sizes held against numbers from outside: those of T8's panel, and of one whose parts all differ.
 use mathlib.Core.List.{[], _∷_}
 use mathlib.Core.Path.{_≡_, refl}
 use Rattle.panel.specs.Geometry.{storedBits, outsideModes}

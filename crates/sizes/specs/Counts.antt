@@ -1,5 +1,5 @@
 -- A frame's counts to a lent slice (document 01, "Clocks and lines" and "Numbers of refusal"). Promises cite it, so a reader must
--- believe it. Assumes nothing.
+-- believe it.
 use mathlib.Core.List.{List, [], _∷_}
 use Prim.Native.Nat.{ℕ}
 use lib.ListN.{length, getD}

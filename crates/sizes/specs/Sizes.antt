@@ -1,5 +1,5 @@
 -- The panel's sizes to a lent slice (document 01, "The nine words" and "Clocks and lines"): each part is a field + 1. Promises cite
--- it, so a reader must believe it. Assumes nothing.
+-- it, so a reader must believe it.
 use mathlib.Core.List.{List, [], _∷_, _++_}
 use Prim.Native.Nat.{ℕ, _+_, _*_}
 use Rattle.laws.specs.Answers.{judged, Outcome, outcomeOn}

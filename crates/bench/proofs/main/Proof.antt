@@ -1,4 +1,4 @@
--- `bench::main` is safe: an input that is not refused has 556 to 33,324 bytes, all of them read. Assumes nothing.
+-- `bench::main` is safe: an input that is not refused has 556 to 33,324 bytes, all of them read.
 use borrow.Author.Needs.{needs}
 use mathlib.Core.Path.{sym, _∙_}
 use Rattle.bench.proofs.Lengths.{accepted-length}

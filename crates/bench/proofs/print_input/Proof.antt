@@ -1,4 +1,4 @@
--- `bench::print_input` is safe: the tail has at most 8192 words. Assumes nothing.
+-- `bench::print_input` is safe: the tail has at most 8192 words.
 use borrow.Author.Needs.{needs}
 use lib.ListN.{length-take}
 use native.Mathlib.Omega.{arith}

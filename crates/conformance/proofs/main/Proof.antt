@@ -1,4 +1,4 @@
--- `conformance::main` is safe and ends: the groups still to run are the measure. Assumes nothing.
+-- `conformance::main` is safe and ends: the groups still to run are the measure.
 use Prim.Native.Nat.{_-_}
 use borrow.Author.Needs.{needs}
 use Rattle.conformance.proofs.main.Statement.{statement}

@@ -1,4 +1,4 @@
--- `fields::read` meets its contract. Assumes nothing.
+-- `fields::read` meets its contract.
 use mathlib.Core.Path.{sym, _∙_}
 use lib.Dec.{lit<}
 use Rattle.laws.specs.AnswerLaws.{one-refuses, one-accepts}

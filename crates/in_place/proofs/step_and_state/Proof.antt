@@ -1,4 +1,4 @@
--- `in_place::step_and_state` meets its contract. Assumes nothing.
+-- `in_place::step_and_state` meets its contract.
 use borrow.Author.Needs.{needs}
 use mathlib.Core.Path.{sym, ap, _∙_}
 use Rattle.scanout.specs.Answers.{stepped}

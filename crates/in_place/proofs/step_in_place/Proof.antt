@@ -1,6 +1,6 @@
 -- `in_place::step_in_place` meets its contract: a walk of its MIR, by hand. The borrow is opened, the state is copied out and
 -- `step_and_state` is called on it; the state that it leaves is stored where the old one lay, and the borrow is closed at it. All that
--- the proof knows of `step_and_state` is that it meets its contract. Assumes nothing.
+-- the proof knows of `step_and_state` is that it meets its contract.
 use mathlib.Core.Path.{_≡_, refl}
 use Prim.Native.Nat.{ℕ}
 use mathlib.Core.List.{List, [], _∷_}

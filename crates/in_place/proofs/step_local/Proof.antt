@@ -1,6 +1,6 @@
 -- `in_place::step_local` meets its contract: a walk of its MIR, by hand. The state is put into a local, which is lent to `step_in_place`
 -- for a lifetime of the call; the lifetime is ended, and the local is read at the last value that the callee's contract says. All that
--- the proof knows of `step_in_place` is that it meets its contract. Assumes nothing.
+-- the proof knows of `step_in_place` is that it meets its contract.
 use mathlib.Core.Path.{_≡_, refl}
 use Prim.Native.Nat.{ℕ}
 use mathlib.Core.List.{List, [], _∷_}

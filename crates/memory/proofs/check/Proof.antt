@@ -1,4 +1,4 @@
--- `memory::check` meets its contract. Assumes nothing.
+-- `memory::check` meets its contract.
 use mathlib.Core.Path.{sym, ap, _∙_}
 use borrow.Author.Needs.{needs}
 use Rattle.laws.specs.AnswerLaws.{judges-on, passes-number}

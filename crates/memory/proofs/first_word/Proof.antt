@@ -1,4 +1,4 @@
--- `memory::first_word` meets its contract. Assumes nothing.
+-- `memory::first_word` meets its contract.
 use native.Mathlib.Omega.{arith}
 use borrow.Author.Needs.{needs}
 use Rattle.memory.specs.Memory.{firstWord}

@@ -1,4 +1,4 @@
--- `memory::judge_memory` meets its contract: 1 to 7, and then 8. Assumes nothing.
+-- `memory::judge_memory` meets its contract: 1 to 7, and then 8.
 use mathlib.Core.Path.{sym, _∙_}
 use borrow.Author.Needs.{needs}
 use Rattle.laws.specs.CaseLaws.{front-refuses, front-passes, stops, ends}

@@ -1,4 +1,4 @@
--- `memory::outside_memory` meets its contract: the closed form of refusal 8. Assumes nothing.
+-- `memory::outside_memory` meets its contract: the closed form of refusal 8.
 use Prim.Native.Nat.{_-_}
 use native.Mathlib.Omega.{arith}
 use borrow.Author.Needs.{needs}

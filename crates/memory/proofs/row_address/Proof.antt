@@ -1,4 +1,4 @@
--- `memory::row_address` meets its contract. Assumes nothing.
+-- `memory::row_address` meets its contract.
 use Prim.Native.Nat.{_+_, _*_, _^_, _≤_}
 use native.Mathlib.Omega.{arith}
 use borrow.Author.Needs.{needs}

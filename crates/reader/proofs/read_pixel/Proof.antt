@@ -1,6 +1,6 @@
 -- `reader::read_pixel` meets its contract: a walk of its MIR, by hand. The reader that `new` returns is held in a local and passed to
 -- `pixel`. All that the proof knows of the two is that each meets its contract. In a local of a body MIR erases the lifetime of the
--- struct's type, so the reader is shown to have the type at `erased`. Assumes nothing.
+-- struct's type, so the reader is shown to have the type at `erased`.
 use mathlib.Core.Path.{_≡_, refl, ap, _∙_}
 use Prim.Native.Nat.{ℕ}
 use mathlib.Core.List.{List, [], _∷_}

@@ -1,4 +1,4 @@
--- `registers::load` meets its contract: the test on the length is the condition of refusal 10. Assumes nothing.
+-- `registers::load` meets its contract: the test on the length is the condition of refusal 10.
 use borrow.Author.Needs.{needs}
 use borrow.Author.Tests.{lt-ltb, le-ltb}
 use mathlib.Core.Path.{refl}

@@ -1,4 +1,4 @@
--- `registers::put_entries` meets its contract: one number a turn. Assumes nothing.
+-- `registers::put_entries` meets its contract: one number a turn.
 use Prim.Native.Nat.{_≤_, _-_}
 use mathlib.Core.Path.{refl, sym, ap, _∙_}
 use native.Mathlib.Omega.{arith}

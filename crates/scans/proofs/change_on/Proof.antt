@@ -1,4 +1,4 @@
--- `scans::change_on` meets its contract. Assumes nothing.
+-- `scans::change_on` meets its contract.
 use borrow.Author.Needs.{needs}
 use mathlib.Core.Path.{sym, ap, _∙_}
 use Rattle.laws.specs.Answers.{leaves}

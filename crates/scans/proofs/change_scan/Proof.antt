@@ -1,4 +1,4 @@
--- `scans::change_scan` meets its contract. Assumes nothing.
+-- `scans::change_scan` meets its contract.
 use borrow.Author.Needs.{needs}
 use borrow.Author.Tests.{lt-ltb, le-ltb}
 use native.Mathlib.Omega.{arith}

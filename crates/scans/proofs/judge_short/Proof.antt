@@ -1,4 +1,4 @@
--- `scans::judge_short` meets its contract. Assumes nothing.
+-- `scans::judge_short` meets its contract.
 use native.Mathlib.Omega.{arith}
 use borrow.Author.Needs.{needs}
 use borrow.Author.Tests.{lt-ltb, le-ltb}

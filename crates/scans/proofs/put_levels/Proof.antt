@@ -1,4 +1,4 @@
--- `scans::put_levels` meets its contract. Assumes nothing.
+-- `scans::put_levels` meets its contract.
 use borrow.Author.Needs.{needs}
 use Rattle.scans.specs.Scan.{putLevels}
 use Rattle.scans.proofs.put_levels.Statement.{statement}

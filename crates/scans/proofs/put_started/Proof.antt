@@ -1,4 +1,4 @@
--- `scans::put_started` meets its contract. Assumes nothing.
+-- `scans::put_started` meets its contract.
 use native.Mathlib.Omega.{arith}
 use borrow.Author.Needs.{needs}
 use borrow.Author.Tests.{lt-ltb, le-ltb}

@@ -1,4 +1,4 @@
--- `scans::put_state` meets its contract. Assumes nothing.
+-- `scans::put_state` meets its contract.
 use borrow.Author.Needs.{needs}
 use Rattle.scans.specs.Scan.{putState}
 use Rattle.scans.proofs.put_state.Statement.{statement}

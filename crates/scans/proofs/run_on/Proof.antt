@@ -1,4 +1,4 @@
--- `scans::run_on` meets its contract. Assumes nothing.
+-- `scans::run_on` meets its contract.
 use native.Mathlib.Omega.{arith}
 use borrow.Author.Needs.{needs}
 use mathlib.Core.List.{List}

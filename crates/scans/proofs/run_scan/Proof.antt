@@ -1,4 +1,4 @@
--- `scans::run_scan` meets its contract. Assumes nothing.
+-- `scans::run_scan` meets its contract.
 use borrow.Author.Needs.{needs}
 use borrow.Author.Tests.{lt-ltb, le-ltb}
 use mathlib.Core.Bool.{Bool, true, false, _||_}

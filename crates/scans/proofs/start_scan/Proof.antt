@@ -1,4 +1,4 @@
--- `scans::start_scan` meets its contract. Assumes nothing.
+-- `scans::start_scan` meets its contract.
 use borrow.Author.Needs.{needs}
 use mathlib.Core.Path.{sym, ap, _∙_}
 use Rattle.laws.specs.AnswerLaws.{writes-on, leaves-on}

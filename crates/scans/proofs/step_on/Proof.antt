@@ -1,4 +1,4 @@
--- `scans::step_on` meets its contract. Assumes nothing.
+-- `scans::step_on` meets its contract.
 use borrow.Author.Needs.{needs}
 use mathlib.Core.List.{List}
 use mathlib.Core.Path.{_≡_, sym, ap, ap₂, _∙_}

@@ -1,4 +1,4 @@
--- `scans::step_scan` meets its contract. Assumes nothing.
+-- `scans::step_scan` meets its contract.
 use borrow.Author.Needs.{needs}
 use borrow.Author.Tests.{lt-ltb, le-ltb}
 use mathlib.Core.Bool.{true, false}

@@ -1,4 +1,4 @@
--- `scans::store_entries` meets its contract. Assumes nothing.
+-- `scans::store_entries` meets its contract.
 use mathlib.Core.Path.{refl}
 use Prim.Native.Nat.{_-_, _≤_}
 use native.Mathlib.Omega.{arith}

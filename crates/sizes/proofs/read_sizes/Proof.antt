@@ -1,4 +1,4 @@
--- `sizes::read_sizes` meets its contract. Assumes nothing.
+-- `sizes::read_sizes` meets its contract.
 use borrow.Author.Needs.{needs}
 use mathlib.Core.Path.{sym, ap, _∙_}
 use Rattle.laws.specs.AnswerLaws.{writes-on, leaves-on}

@@ -1,4 +1,4 @@
--- `sizes::read_sizes_of` meets its contract. Assumes nothing.
+-- `sizes::read_sizes_of` meets its contract.
 use borrow.Author.Needs.{needs}
 use mathlib.Core.Path.{sym, _∙_}
 use lib.Dec.{lit<}

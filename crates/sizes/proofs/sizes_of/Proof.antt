@@ -1,4 +1,4 @@
--- `sizes::sizes_of` meets its contract: size by size. Assumes nothing.
+-- `sizes::sizes_of` meets its contract: size by size.
 use borrow.Author.Needs.{needs}
 use Rattle.sizes.proofs.sizes_of.Statement.{statement}
 use Rattle.sizes.proofs.sizes_of.Tie as tie

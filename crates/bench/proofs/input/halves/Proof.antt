@@ -1,4 +1,4 @@
--- `bench::input::halves` meets its contract. Assumes nothing.
+-- `bench::input::halves` meets its contract.
 use Prim.Native.Nat.{_+_, _*_, _-_, _≤_}
 use native.Mathlib.Omega.{arith}
 use borrow.Author.Needs.{needs}

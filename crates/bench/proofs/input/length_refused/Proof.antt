@@ -1,4 +1,4 @@
--- `bench::input::length_refused` meets its contract. Assumes nothing.
+-- `bench::input::length_refused` meets its contract.
 use native.Mathlib.Omega.{arith}
 use borrow.Author.Tests.{lt-ltb, le-ltb}
 use Rattle.bench.specs.Input.{lengthRefused}

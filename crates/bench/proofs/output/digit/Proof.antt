@@ -1,4 +1,4 @@
--- `bench::output::digit` meets its contract. Assumes nothing.
+-- `bench::output::digit` meets its contract.
 use native.Mathlib.Omega.{arith}
 use borrow.Author.Needs.{needs}
 use borrow.Author.Tests.{lt-ltb, le-ltb}

@@ -1,4 +1,4 @@
--- `bench::output::parting` meets its contract. Assumes nothing.
+-- `bench::output::parting` meets its contract.
 use Rattle.bench.proofs.output.parting.Statement.{statement}
 use Rattle.bench.proofs.output.parting.Tie as tie
 

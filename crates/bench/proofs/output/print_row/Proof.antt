@@ -1,4 +1,4 @@
--- `bench::output::print_row` is safe: the text has room for 2048 colours, seven bytes each. Assumes nothing.
+-- `bench::output::print_row` is safe: the text has room for 2048 colours, seven bytes each.
 use borrow.Author.Needs.{needs}
 use lib.ListN.{length-take}
 use native.Mathlib.Omega.{arith}

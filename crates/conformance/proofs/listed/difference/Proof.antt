@@ -1,4 +1,4 @@
--- `conformance::listed::difference` is safe and ends: what is left of the first slice is the measure. Assumes nothing.
+-- `conformance::listed::difference` is safe and ends: what is left of the first slice is the measure.
 use Prim.Native.Nat.{_-_}
 use borrow.Author.Needs.{needs}
 use lib.ListN.{length}

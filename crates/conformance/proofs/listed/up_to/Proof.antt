@@ -1,4 +1,4 @@
--- `conformance::listed::up_to` answers a place inside the entries. Assumes nothing.
+-- `conformance::listed::up_to` answers a place inside the entries.
 use lib.ListN.{length-take}
 use native.Mathlib.Omega.{arith}
 use Rattle.conformance.proofs.listed.up_to.Statement.{statement}

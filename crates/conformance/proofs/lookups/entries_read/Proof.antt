@@ -1,4 +1,4 @@
--- `conformance::lookups::entries_read` is safe and ends: what is left of the entries is the measure. Assumes nothing.
+-- `conformance::lookups::entries_read` is safe and ends: what is left of the entries is the measure.
 use Prim.Native.Nat.{_-_}
 use borrow.Author.Needs.{needs}
 use lib.ListN.{length}

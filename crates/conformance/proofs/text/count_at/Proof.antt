@@ -1,4 +1,4 @@
--- `conformance::text::count_at` is safe and ends: a line has no more numbers than the text has bytes. Assumes nothing.
+-- `conformance::text::count_at` is safe and ends: a line has no more numbers than the text has bytes.
 use Prim.Native.Nat.{_-_}
 use borrow.Author.Needs.{needs}
 use lib.ListN.{length}

@@ -1,4 +1,4 @@
--- `conformance::text::index_of` is safe and ends: what is left of the names is the measure. Assumes nothing.
+-- `conformance::text::index_of` is safe and ends: what is left of the names is the measure.
 use Prim.Native.Nat.{_-_}
 use borrow.Author.Needs.{needs}
 use lib.ListN.{length}

@@ -1,4 +1,4 @@
--- `conformance::text::key_at` is safe: a key begins and ends inside the text. Assumes nothing.
+-- `conformance::text::key_at` is safe: a key begins and ends inside the text.
 use borrow.Author.Needs.{needs}
 use native.Mathlib.Omega.{arith}
 use Rattle.conformance.proofs.text.key_at.Statement.{statement}

@@ -1,4 +1,4 @@
--- `conformance::text::low_16` is safe: the mask leaves 16 bits. Assumes nothing.
+-- `conformance::text::low_16` is safe: the mask leaves 16 bits.
 use borrow.Author.Needs.{needs}
 use lib.Bits.{mask-lt}
 use Rattle.conformance.proofs.text.low_16.Statement.{statement}

@@ -1,4 +1,4 @@
--- `conformance::text::place` ends: the numbers still to pass are the measure. Assumes nothing.
+-- `conformance::text::place` ends: the numbers still to pass are the measure.
 use borrow.Author.Needs.{needs}
 use Rattle.conformance.proofs.text.place.Statement.{statement}
 use Rattle.conformance.proofs.text.place.Tie as tie

@@ -1,4 +1,4 @@
--- `conformance::text::scan` ends, no earlier than it began and, if it began inside, inside the text. Assumes nothing.
+-- `conformance::text::scan` ends, no earlier than it began and, if it began inside, inside the text.
 use Prim.Native.Nat.{_-_, _≤_}
 use borrow.Author.Needs.{needs}
 use lib.ListN.{length}

@@ -1,4 +1,4 @@
--- `conformance::text::words_from` is safe, ends and answers a place inside `out`, which keeps its length. Assumes nothing.
+-- `conformance::text::words_from` is safe, ends and answers a place inside `out`, which keeps its length.
 use Prim.Native.Nat.{_-_, _≤_}
 use borrow.Author.Needs.{needs}
 use lib.ListN.{length, length-take}

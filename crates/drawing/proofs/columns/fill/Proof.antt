@@ -1,4 +1,4 @@
--- `drawing::columns::fill` meets its contract. Assumes nothing.
+-- `drawing::columns::fill` meets its contract.
 use mathlib.Core.Path.{refl}
 use Prim.Native.Nat.{_≤_, _-_}
 use native.Mathlib.Omega.{arith}

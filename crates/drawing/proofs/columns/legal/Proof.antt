@@ -1,4 +1,4 @@
--- `drawing::columns::legal` meets its contract. Assumes nothing.
+-- `drawing::columns::legal` meets its contract.
 use mathlib.Core.Bool.{Bool, true, false, not, _&&_, _||_, true≢false}
 use mathlib.Core.Path.{_≡_, refl, sym, _∙_}
 use Prim.Native.Nat.{ℕ, _≤_}

@@ -1,4 +1,4 @@
--- `drawing::picture::by_rows` meets its contract. Assumes nothing.
+-- `drawing::picture::by_rows` meets its contract.
 use mathlib.Core.Bool.{Bool, true, _&&_}
 use mathlib.Core.Path.{_≡_, sym, ap, ap₂, _∙_}
 use Prim.Native.Nat.{ℕ, _+_, _-_, _*_, _/_, _%_, _≤_, _∣_}

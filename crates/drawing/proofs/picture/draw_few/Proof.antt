@@ -1,4 +1,4 @@
--- `drawing::picture::draw_few` meets its contract: a pixel a turn. Assumes nothing.
+-- `drawing::picture::draw_few` meets its contract: a pixel a turn.
 use mathlib.Core.Path.{refl, sym, ap, _∙_}
 use Prim.Native.Nat.{ℕ, _+_, _-_, _*_, _/_, _%_, _<_, _≤_}
 use native.Mathlib.Nat.{mod-lt, div-le-self}

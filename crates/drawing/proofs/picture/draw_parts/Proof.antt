@@ -1,4 +1,4 @@
--- `drawing::picture::draw_parts` meets its contract: three parts, one after the other. Assumes nothing.
+-- `drawing::picture::draw_parts` meets its contract: three parts, one after the other.
 use mathlib.Core.Path.{_≡_, ap, _∙_, subst}
 use Prim.Native.Nat.{ℕ, _+_, _-_, _*_, _/_, _%_, _≤_, _∣_}
 use native.Mathlib.Nat.{mod-lt, mod-le}

@@ -1,4 +1,4 @@
--- `drawing::picture::draw_picture` meets its contract. Assumes nothing.
+-- `drawing::picture::draw_picture` meets its contract.
 use mathlib.Core.Path.{_≡_, sym, ap, _∙_}
 use Prim.Native.Nat.{ℕ, _≤_}
 use native.Mathlib.Nat.{dvd-zero, dvd-mul-right-of-dvd}

@@ -1,4 +1,4 @@
--- `drawing::picture::draw_rows` meets its contract: a row a turn. Assumes nothing.
+-- `drawing::picture::draw_rows` meets its contract: a row a turn.
 use mathlib.Core.Path.{refl, _∙_, subst}
 use Prim.Native.Nat.{ℕ, _+_, _-_, _<_, _∣_}
 use native.Mathlib.Nat.{div-le-self, dvd-zero, dvd-sub, dvd-mod-iff}

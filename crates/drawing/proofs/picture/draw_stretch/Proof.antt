@@ -1,4 +1,4 @@
--- `drawing::picture::draw_stretch` meets its contract. Assumes nothing.
+-- `drawing::picture::draw_stretch` meets its contract.
 use mathlib.Core.List.{List}
 use mathlib.Core.Path.{_≡_, ap, _∙_}
 use Prim.Native.Nat.{ℕ, _≤_}

@@ -1,4 +1,4 @@
--- `drawing::picture::judge_picture` meets its contract. Assumes nothing.
+-- `drawing::picture::judge_picture` meets its contract.
 use borrow.Author.Needs.{needs}
 use Rattle.registers.specs.Loading.{tooShort}
 use Rattle.drawing.specs.Drawing.{judgePicture}

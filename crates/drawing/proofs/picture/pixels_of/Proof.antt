@@ -1,4 +1,4 @@
--- `drawing::picture::pixels_of` meets its contract. Assumes nothing.
+-- `drawing::picture::pixels_of` meets its contract.
 use Prim.Native.Nat.{_*_, _≤_}
 use native.Mathlib.Omega.{arith}
 use Rattle.laws.specs.ProductLaws.{product-le}

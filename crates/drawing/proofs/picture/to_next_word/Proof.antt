@@ -1,4 +1,4 @@
--- `drawing::picture::to_next_word` meets its contract. Assumes nothing.
+-- `drawing::picture::to_next_word` meets its contract.
 use mathlib.Core.Path.{ap, _∙_}
 use Prim.Native.Nat.{ℕ, _-_, _*_, _/_, _%_}
 use native.Mathlib.Nat.{add-zero, div-le-self}

@@ -1,4 +1,4 @@
--- `drawing::pixel::draw_pixel` meets its contract. Assumes nothing.
+-- `drawing::pixel::draw_pixel` meets its contract.
 use mathlib.Core.Path.{refl}
 use borrow.Author.Needs.{needs}
 use Rattle.laws.specs.AnswerLaws.{gives-refusal, gives-answer}

@@ -1,4 +1,4 @@
--- `drawing::pixel::judge_pixel` meets its contract: 1 to 10, and then 11. Assumes nothing.
+-- `drawing::pixel::judge_pixel` meets its contract: 1 to 10, and then 11.
 use mathlib.Core.Bool.{Bool, _||_}
 use mathlib.Core.List.{[], _∷_}
 use mathlib.Core.Path.{refl, ap₂, _∙_}

@@ -1,4 +1,4 @@
--- `drawing::pixel::pixel_colour` meets its contract. Assumes nothing.
+-- `drawing::pixel::pixel_colour` meets its contract.
 use mathlib.Core.Path.{refl, sym, ap, _∙_}
 use native.Mathlib.Omega.{arith}
 use borrow.Author.Needs.{needs}

@@ -1,4 +1,4 @@
--- `drawing::pixel::show_indexed` meets its contract. Assumes nothing.
+-- `drawing::pixel::show_indexed` meets its contract.
 use mathlib.Core.Path.{sym, ap, _∙_}
 use borrow.Author.Needs.{needs}
 use Rattle.pixels.specs.Colours.{expanded}

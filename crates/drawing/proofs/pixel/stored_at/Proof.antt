@@ -1,4 +1,4 @@
--- `drawing::pixel::stored_at` meets its contract. Assumes nothing.
+-- `drawing::pixel::stored_at` meets its contract.
 use mathlib.Core.Path.{sym, _∙_}
 use Prim.Native.Nat.{_+_, _*_, _/_, _≤_, _<_}
 use native.Mathlib.Omega.{arith}

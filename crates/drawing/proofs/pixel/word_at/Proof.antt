@@ -1,4 +1,4 @@
--- `drawing::pixel::word_at` meets its contract. Assumes nothing.
+-- `drawing::pixel::word_at` meets its contract.
 use mathlib.Core.Path.{sym}
 use borrow.Author.Needs.{needs}
 use lib.ListN.{List·getD-eq-default}

@@ -1,4 +1,4 @@
--- `drawing::refusals::judge_drawing` meets its contract: 1 to 8, and then 9 and 10. Assumes nothing.
+-- `drawing::refusals::judge_drawing` meets its contract: 1 to 8, and then 9 and 10.
 use mathlib.Core.Bool.{Bool, _||_}
 use mathlib.Core.Path.{refl, ap, _∙_}
 use Rattle.laws.specs.CaseLaws.{and-next, further}

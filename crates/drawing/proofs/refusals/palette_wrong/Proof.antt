@@ -1,4 +1,4 @@
--- `drawing::refusals::palette_wrong` meets its contract. Assumes nothing.
+-- `drawing::refusals::palette_wrong` meets its contract.
 use mathlib.Core.Path.{refl}
 use Rattle.drawing.specs.Drawing.{paletteWrong}
 use Rattle.drawing.proofs.refusals.palette_wrong.Statement.{statement}

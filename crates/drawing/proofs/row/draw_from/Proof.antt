@@ -1,4 +1,4 @@
--- `drawing::row::draw_from` meets its contract. Assumes nothing.
+-- `drawing::row::draw_from` meets its contract.
 use mathlib.Core.Bool.{false}
 use mathlib.Core.List.{List, [], _∷_}
 use mathlib.Core.Path.{_≡_, refl, sym, ap, _∙_}

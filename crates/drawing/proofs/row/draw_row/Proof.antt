@@ -1,4 +1,4 @@
--- `drawing::row::draw_row` meets its contract. Assumes nothing.
+-- `drawing::row::draw_row` meets its contract.
 use mathlib.Core.Path.{_≡_, sym, _∙_}
 use Prim.Native.Nat.{_≤_}
 use native.Mathlib.Omega.{arith}

@@ -1,4 +1,4 @@
--- `drawing::row::judge_row` meets its contract: 1 to 10, and then 11. Assumes nothing.
+-- `drawing::row::judge_row` meets its contract: 1 to 10, and then 11.
 use mathlib.Core.List.{[], _∷_}
 use mathlib.Core.Path.{refl, _∙_}
 use borrow.Author.Needs.{needs}

@@ -1,4 +1,4 @@
--- `drawing::table::expand_palette` meets its contract. Assumes nothing.
+-- `drawing::table::expand_palette` meets its contract.
 use Prim.Native.Nat.{_≤_, _-_}
 use native.Mathlib.Omega.{arith}
 use borrow.Author.Needs.{needs}

@@ -1,4 +1,4 @@
--- `drawing::table::fill_table` meets its contract. Assumes nothing.
+-- `drawing::table::fill_table` meets its contract.
 use mathlib.Core.Bool.{false}
 use mathlib.Core.List.{List}
 use mathlib.Core.Path.{_≡_, refl, sym, ap, _∙_}

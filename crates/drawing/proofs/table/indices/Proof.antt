@@ -1,4 +1,4 @@
--- `drawing::table::indices` meets its contract. Assumes nothing.
+-- `drawing::table::indices` meets its contract.
 use mathlib.Core.Bool.{Bool, true, false, not, _&&_, true≢false}
 use mathlib.Core.Path.{_≡_, refl, sym, _∙_}
 use Prim.Native.Nat.{ℕ, _*_, _%_, _^_, _≤_}

@@ -1,4 +1,4 @@
--- `drawing::table::looked_up` meets its contract. Assumes nothing.
+-- `drawing::table::looked_up` meets its contract.
 use mathlib.Core.Path.{refl}
 use Rattle.drawing.proofs.table.looked_up.Statement.{statement}
 use Rattle.drawing.proofs.table.looked_up.Tie as tie

@@ -1,4 +1,4 @@
--- `drawing::words::bits_past` meets its contract. Assumes nothing.
+-- `drawing::words::bits_past` meets its contract.
 use native.Mathlib.Omega.{arith}
 use Rattle.pixels.proofs.PixelOrder.{cut-by-shifts}
 use Rattle.drawing.proofs.words.bits_past.Statement.{statement}

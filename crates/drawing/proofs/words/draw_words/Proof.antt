@@ -1,4 +1,4 @@
--- `drawing::words::draw_words` meets its contract. In each arm the size is known. Assumes nothing.
+-- `drawing::words::draw_words` meets its contract. In each arm the size is known.
 use mathlib.Core.Bool.{false}
 use mathlib.Core.List.{List}
 use mathlib.Core.Path.{_≡_, refl}

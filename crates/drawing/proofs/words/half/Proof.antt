@@ -1,4 +1,4 @@
--- `drawing::words::half` meets its contract. Assumes nothing.
+-- `drawing::words::half` meets its contract.
 use lib.Bits.{and-mask}
 use Rattle.drawing.proofs.words.half.Statement.{statement}
 use Rattle.drawing.proofs.words.half.Tie as tie

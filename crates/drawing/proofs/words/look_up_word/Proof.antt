@@ -1,4 +1,4 @@
--- `drawing::words::look_up_word` meets its contract. Assumes nothing.
+-- `drawing::words::look_up_word` meets its contract.
 use mathlib.Core.Path.{_≡_, refl, ap, _∙_}
 use Prim.Native.Nat.{ℕ, _+_, _*_, _<_, _≤_, _-_}
 use native.Mathlib.Nat.{div-le-self, lt-of-lt-of-le}

@@ -1,4 +1,4 @@
--- `drawing::words::look_up_words` meets its contract: a word a turn. Assumes nothing.
+-- `drawing::words::look_up_words` meets its contract: a word a turn.
 use mathlib.Core.Bool.{false}
 use mathlib.Core.Path.{refl, sym, ap, _∙_}
 use Prim.Native.Nat.{ℕ, _+_, _*_, _/_, _≤_, _-_}

@@ -1,4 +1,4 @@
--- `entries::writing::fields_in` meets its contract. Assumes nothing.
+-- `entries::writing::fields_in` meets its contract.
 use borrow.Author.Needs.{needs}
 use Rattle.entries.proofs.writing.fields_in.Statement.{statement}
 use Rattle.entries.proofs.writing.fields_in.Tie as tie

@@ -1,4 +1,4 @@
--- `entries::writing::write_fields` meets its contract. Assumes nothing.
+-- `entries::writing::write_fields` meets its contract.
 use native.Mathlib.Omega.{arith}
 use borrow.Author.Needs.{needs}
 use borrow.Author.Tests.{lt-ltb, le-ltb}

@@ -1,5 +1,4 @@
 -- `fields::packing::lcdcon5_packed` meets its contract: thirteen fields, so the facts of the first calls are handed over.
--- Assumes nothing.
 use native.Mathlib.Omega.{arith}
 use borrow.Author.Needs.{needs}
 use Rattle.fields.proofs.packing.lcdcon5_packed.Statement.{statement}

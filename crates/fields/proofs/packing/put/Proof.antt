@@ -1,4 +1,4 @@
--- `fields::packing::put` meets its contract: a shift and an or are a product and a sum. Assumes nothing.
+-- `fields::packing::put` meets its contract: a shift and an or are a product and a sum.
 use mathlib.Core.Path.{_≡_}
 use Prim.Native.Nat.{ℕ, suc, _+_, _-_}
 use native.Mathlib.Omega.{arith}

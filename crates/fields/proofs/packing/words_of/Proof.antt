@@ -1,4 +1,4 @@
--- `fields::packing::words_of` meets its contract: word by word. Assumes nothing.
+-- `fields::packing::words_of` meets its contract: word by word.
 use Rattle.fields.proofs.packing.words_of.Statement.{statement}
 use Rattle.fields.proofs.packing.words_of.Tie as tie
 

@@ -1,4 +1,4 @@
--- `fields::unpacking::fields_of` meets its contract: word by word. Assumes nothing.
+-- `fields::unpacking::fields_of` meets its contract: word by word.
 use Rattle.fields.proofs.unpacking.fields_of.Statement.{statement}
 use Rattle.fields.proofs.unpacking.fields_of.Tie as tie
 

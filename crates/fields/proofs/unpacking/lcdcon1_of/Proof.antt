@@ -1,4 +1,4 @@
--- `fields::unpacking::lcdcon1_of` meets its contract: each field is what the register gives. Assumes nothing.
+-- `fields::unpacking::lcdcon1_of` meets its contract: each field is what the register gives.
 use Rattle.fields.proofs.unpacking.lcdcon1_of.Statement.{statement}
 use Rattle.fields.proofs.unpacking.lcdcon1_of.Tie as tie
 

@@ -1,4 +1,4 @@
--- `fields::unpacking::lcdcon4_of` meets its contract: each field is what the register gives. Assumes nothing.
+-- `fields::unpacking::lcdcon4_of` meets its contract: each field is what the register gives.
 use Rattle.fields.proofs.unpacking.lcdcon4_of.Statement.{statement}
 use Rattle.fields.proofs.unpacking.lcdcon4_of.Tie as tie
 

@@ -1,4 +1,4 @@
--- `fields::unpacking::lcdcon5_of` meets its contract: each field is what the register gives. Assumes nothing.
+-- `fields::unpacking::lcdcon5_of` meets its contract: each field is what the register gives.
 use Rattle.fields.proofs.unpacking.lcdcon5_of.Statement.{statement}
 use Rattle.fields.proofs.unpacking.lcdcon5_of.Tie as tie
 

@@ -1,4 +1,4 @@
--- `fields::unpacking::lcdsaddr2_of` meets its contract: each field is what the register gives. Assumes nothing.
+-- `fields::unpacking::lcdsaddr2_of` meets its contract: each field is what the register gives.
 use Rattle.fields.proofs.unpacking.lcdsaddr2_of.Statement.{statement}
 use Rattle.fields.proofs.unpacking.lcdsaddr2_of.Tie as tie
 

@@ -1,4 +1,4 @@
--- `fields::unpacking::lcdsaddr3_of` meets its contract: each field is what the register gives. Assumes nothing.
+-- `fields::unpacking::lcdsaddr3_of` meets its contract: each field is what the register gives.
 use Rattle.fields.proofs.unpacking.lcdsaddr3_of.Statement.{statement}
 use Rattle.fields.proofs.unpacking.lcdsaddr3_of.Tie as tie
 

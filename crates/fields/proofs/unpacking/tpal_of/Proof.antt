@@ -1,4 +1,4 @@
--- `fields::unpacking::tpal_of` meets its contract: each field is what the register gives. Assumes nothing.
+-- `fields::unpacking::tpal_of` meets its contract: each field is what the register gives.
 use Rattle.fields.proofs.unpacking.tpal_of.Statement.{statement}
 use Rattle.fields.proofs.unpacking.tpal_of.Tie as tie
 

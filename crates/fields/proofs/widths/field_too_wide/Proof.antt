@@ -1,4 +1,4 @@
--- `fields::widths::field_too_wide` meets its contract: word by word. Assumes nothing.
+-- `fields::widths::field_too_wide` meets its contract: word by word.
 use mathlib.Core.Path.{sym}
 use Rattle.laws.specs.BooleanLaws.{or-never}
 use Rattle.fields.specs.Writing.{fieldTooWide}

@@ -1,4 +1,4 @@
--- `fields::widths::wider` meets its contract. Assumes nothing.
+-- `fields::widths::wider` meets its contract.
 use mathlib.Core.Bool.{Bool, _||_}
 use mathlib.Core.Path.{_≡_, _∙_, ap}
 use Prim.Native.Nat.{ℕ, suc, _+_, _-_, _/_, _^_, _≤_}

@@ -1,4 +1,4 @@
--- `lcd::pixel::draw_pixel_in` meets its contract. Assumes nothing.
+-- `lcd::pixel::draw_pixel_in` meets its contract.
 use mathlib.Core.Bool.{Bool, _||_}
 use mathlib.Core.List.{[], _∷_}
 use mathlib.Core.Path.{_≡_, sym, ap, _∙_}

@@ -1,4 +1,4 @@
--- `lcd::pixel::lcd_draw_pixel` meets its contract. Assumes nothing.
+-- `lcd::pixel::lcd_draw_pixel` meets its contract.
 use borrow.Author.Needs.{needs}
 use mathlib.Core.Path.{sym, ap, _∙_}
 use Rattle.laws.specs.AnswerLaws.{writes-on, leaves-on}

@@ -1,4 +1,4 @@
--- `panel::geometry::bits_of` meets its contract. Assumes nothing.
+-- `panel::geometry::bits_of` meets its contract.
 use mathlib.Core.Path.{sym, ap, _∙_}
 use borrow.Author.Needs.{needs}
 use Rattle.panel.specs.Geometry.{depth, storedBits}

@@ -1,4 +1,4 @@
--- `panel::geometry::row_offset` meets its contract. Assumes nothing.
+-- `panel::geometry::row_offset` meets its contract.
 use Prim.Native.Nat.{_*_, _≤_}
 use native.Mathlib.Omega.{arith}
 use borrow.Author.Needs.{needs}

@@ -1,4 +1,4 @@
--- `panel::refusals::accept_words` meets its contract. Assumes nothing.
+-- `panel::refusals::accept_words` meets its contract.
 use mathlib.Core.Path.{refl}
 use Rattle.laws.specs.AnswerLaws.{gives-refusal, gives-answer}
 use Rattle.panel.proofs.refusals.accept_words.Statement.{statement}

@@ -1,4 +1,4 @@
--- `panel::refusals::and_where` meets its contract. Assumes nothing.
+-- `panel::refusals::and_where` meets its contract.
 use Rattle.laws.specs.CaseLaws.{and-where-refused, and-where-holds, and-where-passes}
 use Rattle.panel.proofs.refusals.and_where.Statement.{statement}
 use Rattle.panel.proofs.refusals.and_where.Tie as tie

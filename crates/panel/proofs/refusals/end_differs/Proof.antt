@@ -1,4 +1,4 @@
--- `panel::refusals::end_differs` meets its contract. Assumes nothing.
+-- `panel::refusals::end_differs` meets its contract.
 use borrow.Author.Needs.{needs}
 use Rattle.panel.specs.Refusals.{endDiffers}
 use Rattle.panel.proofs.refusals.end_differs.Statement.{statement}

@@ -1,4 +1,4 @@
--- `panel::refusals::judge` meets its contract: a straight line of conditions in the order of their numbers. Assumes nothing.
+-- `panel::refusals::judge` meets its contract: a straight line of conditions in the order of their numbers.
 use mathlib.Core.List.{[]}
 use mathlib.Core.Path.{refl, _∙_}
 use Rattle.laws.specs.Cases.{lowest}

@@ -1,4 +1,4 @@
--- `panel::refusals::lower` meets its contract. Assumes nothing.
+-- `panel::refusals::lower` meets its contract.
 use mathlib.Core.Path.{refl, sym, _∙_}
 use native.Mathlib.Omega.{arith}
 use Rattle.laws.specs.Cases.{lower}

@@ -1,4 +1,4 @@
--- `panel::refusals::no_such_mode` meets its contract. Assumes nothing.
+-- `panel::refusals::no_such_mode` meets its contract.
 use mathlib.Core.Path.{sym, ap, _∙_}
 use borrow.Author.Needs.{needs}
 use Rattle.panel.specs.Geometry.{depth, outsideModes}

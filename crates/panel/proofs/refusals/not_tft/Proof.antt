@@ -1,4 +1,4 @@
--- `panel::refusals::not_tft` meets its contract. Assumes nothing.
+-- `panel::refusals::not_tft` meets its contract.
 use Rattle.panel.specs.Refusals.{notTft}
 use Rattle.panel.proofs.refusals.not_tft.Statement.{statement}
 use Rattle.panel.proofs.refusals.not_tft.Tie as tie

@@ -1,4 +1,4 @@
--- `panel::refusals::past_bank` meets its contract. Assumes nothing.
+-- `panel::refusals::past_bank` meets its contract.
 use Prim.Native.Nat.{_-_}
 use native.Mathlib.Omega.{arith}
 use borrow.Author.Needs.{needs}

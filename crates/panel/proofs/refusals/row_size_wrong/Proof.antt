@@ -1,4 +1,4 @@
--- `panel::refusals::row_size_wrong` meets its contract. Assumes nothing.
+-- `panel::refusals::row_size_wrong` meets its contract.
 use native.Mathlib.Omega.{arith}
 use borrow.Author.Needs.{needs}
 use Rattle.laws.specs.ProductLaws.{product-le}

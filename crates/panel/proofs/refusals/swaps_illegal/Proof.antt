@@ -1,4 +1,4 @@
--- `panel::refusals::swaps_illegal` meets its contract. Assumes nothing.
+-- `panel::refusals::swaps_illegal` meets its contract.
 use Rattle.panel.specs.Refusals.{swapsIllegal}
 use Rattle.panel.proofs.refusals.swaps_illegal.Statement.{statement}
 use Rattle.panel.proofs.refusals.swaps_illegal.Tie as tie

@@ -1,4 +1,4 @@
--- `panel::refusals::video_off` meets its contract. Assumes nothing.
+-- `panel::refusals::video_off` meets its contract.
 use Rattle.panel.specs.Refusals.{videoOff}
 use Rattle.panel.proofs.refusals.video_off.Statement.{statement}
 use Rattle.panel.proofs.refusals.video_off.Tie as tie

@@ -1,4 +1,4 @@
--- `panel::timing::frame_clocks` meets its contract. Assumes nothing.
+-- `panel::timing::frame_clocks` meets its contract.
 use mathlib.Core.Path.{ap₂}
 use Prim.Native.Nat.{_*_}
 use native.Mathlib.Omega.{arith}

@@ -1,4 +1,4 @@
--- `panel::timing::frame_lines` meets its contract. Assumes nothing.
+-- `panel::timing::frame_lines` meets its contract.
 use native.Mathlib.Omega.{arith}
 use borrow.Author.Needs.{needs}
 use Rattle.panel.specs.Timing.{frameLines}

@@ -1,4 +1,4 @@
--- `panel::timing::frame_millihertz` meets its contract: a frame has ticks to divide by. Assumes nothing.
+-- `panel::timing::frame_millihertz` meets its contract: a frame has ticks to divide by.
 use native.Mathlib.Omega.{arith}
 use borrow.Author.Needs.{needs}
 use Rattle.panel.proofs.Bounds.{frame-ticks-ge}

@@ -1,4 +1,4 @@
--- `panel::timing::frame_ticks` meets its contract. Assumes nothing.
+-- `panel::timing::frame_ticks` meets its contract.
 use Prim.Native.Nat.{_+_, _*_}
 use native.Mathlib.Omega.{arith}
 use borrow.Author.Needs.{needs}

@@ -1,4 +1,4 @@
--- `panel::timing::line_clocks` meets its contract. Assumes nothing.
+-- `panel::timing::line_clocks` meets its contract.
 use native.Mathlib.Omega.{arith}
 use borrow.Author.Needs.{needs}
 use Rattle.panel.specs.Timing.{lineClocks}

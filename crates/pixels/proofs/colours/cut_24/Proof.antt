@@ -1,4 +1,4 @@
--- `pixels::colours::cut_24` meets its contract: a shift takes the upper 24 bits, a mask the lower. Assumes nothing.
+-- `pixels::colours::cut_24` meets its contract: a shift takes the upper 24 bits, a mask the lower.
 use mathlib.Core.Path.{_∙_}
 use native.Mathlib.Nat.{mul-one}
 use native.Mathlib.Omega.{arith}

@@ -1,4 +1,4 @@
--- `pixels::colours::expand` meets its contract. Assumes nothing.
+-- `pixels::colours::expand` meets its contract.
 use borrow.Author.Needs.{needs}
 use Rattle.pixels.specs.Colours.{expanded}
 use Rattle.pixels.proofs.colours.expand.Statement.{statement}

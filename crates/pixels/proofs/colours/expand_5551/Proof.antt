@@ -1,5 +1,4 @@
 -- `pixels::colours::expand_5551` meets its contract: five fields, each moved to its lines; the lowest is bits 5..1 with bit 0.
--- Assumes nothing.
 use mathlib.Core.Path.{_≡_, _∙_}
 use Prim.Native.Nat.{ℕ, _+_, _*_, _^_}
 use native.Mathlib.Omega.{arith}

@@ -1,4 +1,4 @@
--- `pixels::colours::expand_565` meets its contract: three fields, each moved to its lines. Assumes nothing.
+-- `pixels::colours::expand_565` meets its contract: three fields, each moved to its lines.
 use mathlib.Core.Path.{_∙_}
 use native.Mathlib.Nat.{add-assoc}
 use Rattle.laws.specs.PackingLaws.{masked-moved-up, one-field, over}

@@ -1,4 +1,4 @@
--- `pixels::format::expansion_of` meets its contract. Assumes nothing.
+-- `pixels::format::expansion_of` meets its contract.
 use borrow.Author.Tests.{eq-eqb, ne-eqb}
 use Rattle.pixels.specs.Format.{expansionOf}
 use Rattle.pixels.proofs.format.expansion_of.Statement.{statement}

@@ -1,4 +1,4 @@
--- `pixels::format::format_of` meets its contract. Assumes nothing.
+-- `pixels::format::format_of` meets its contract.
 use mathlib.Core.Path.{refl}
 use Rattle.pixels.specs.Format.{format}
 use Rattle.pixels.proofs.format.format_of.Statement.{statement}

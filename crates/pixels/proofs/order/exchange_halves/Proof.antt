@@ -1,4 +1,4 @@
--- `pixels::order::exchange_halves` meets its contract: the upper half moved down, the lower over it. Assumes nothing.
+-- `pixels::order::exchange_halves` meets its contract: the upper half moved down, the lower over it.
 use native.Mathlib.Omega.{arith}
 use Rattle.laws.specs.PackingLaws.{moved-from-top, moved-to-top, over}
 use Rattle.pixels.specs.Order.{exchangeHalves}

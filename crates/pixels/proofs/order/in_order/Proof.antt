@@ -1,4 +1,4 @@
--- `pixels::order::in_order` meets its contract. Assumes nothing.
+-- `pixels::order::in_order` meets its contract.
 use mathlib.Core.Path.{refl}
 use Rattle.pixels.specs.Order.{inOrder}
 use Rattle.pixels.proofs.order.in_order.Statement.{statement}

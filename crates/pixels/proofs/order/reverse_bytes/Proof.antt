@@ -1,4 +1,4 @@
--- `pixels::order::reverse_bytes` meets its contract: four bytes, each moved to its place. Assumes nothing.
+-- `pixels::order::reverse_bytes` meets its contract: four bytes, each moved to its place.
 use mathlib.Core.Path.{_∙_}
 use native.Mathlib.Nat.{add-assoc}
 use native.Mathlib.Omega.{arith}

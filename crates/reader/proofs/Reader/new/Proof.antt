@@ -1,5 +1,5 @@
 -- `reader::Reader::new` meets its contract: a walk of its MIR, by hand. The struct is made of what is passed, in the result's local.
--- Its fields stand in the parameters' order, so what the parameters own together is what the fields own. Assumes nothing.
+-- Its fields stand in the parameters' order, so what the parameters own together is what the fields own.
 use mathlib.Core.Path.{refl}
 use Prim.Native.Nat.{ℕ}
 use mathlib.Core.List.{List, [], _∷_}

@@ -1,5 +1,5 @@
 -- `reader::Reader::pixel` meets its contract: a walk of its MIR, by hand. The struct is taken apart, and `draw_pixel` is called on its
--- fields and on what else is passed. All that the proof knows of `draw_pixel` is that it meets its contract. Assumes nothing.
+-- fields and on what else is passed. All that the proof knows of `draw_pixel` is that it meets its contract.
 use mathlib.Core.Path.{_≡_, refl}
 use Prim.Native.Nat.{ℕ}
 use mathlib.Core.List.{List, [], _∷_}

@@ -1,4 +1,4 @@
--- `Words::reserved_bit` meets its contract: the reserved spans, joined, hold a 1 where one of them does. Assumes nothing.
+-- `Words::reserved_bit` meets its contract: the reserved spans, joined, hold a 1 where one of them does.
 use borrow.Author.Needs.{needs}
 use Rattle.laws.specs.ShiftLaws.{some-bit, some-bit-or, some-bit-never}
 use Rattle.registers.specs.Fields.{reservedBit}

@@ -1,4 +1,4 @@
--- `registers::bits::cut` meets its contract: a shift and a mask are a quotient and a remainder. Assumes nothing.
+-- `registers::bits::cut` meets its contract: a shift and a mask are a quotient and a remainder.
 use borrow.Author.Needs.{needs}
 use native.Mathlib.Omega.{arith}
 use lib.Pow.{pow-pos}

@@ -1,4 +1,4 @@
--- `scanout::refusals::bank_differs` meets its contract. Assumes nothing.
+-- `scanout::refusals::bank_differs` meets its contract.
 use mathlib.Core.Path.{refl}
 use Rattle.scanout.specs.Refusals.{bankDiffers}
 use Rattle.scanout.proofs.refusals.bank_differs.Statement.{statement}

@@ -1,4 +1,4 @@
--- `scanout::refusals::judge_change` meets its contract. Assumes nothing.
+-- `scanout::refusals::judge_change` meets its contract.
 use mathlib.Core.Bool.{_||_}
 use mathlib.Core.List.{_++_}
 use mathlib.Core.Path.{_≡_, refl, sym, ap₂, _∙_}

@@ -1,4 +1,4 @@
--- `scanout::refusals::judge_scan` meets its contract. Assumes nothing.
+-- `scanout::refusals::judge_scan` meets its contract.
 use mathlib.Core.Bool.{Bool, _||_}
 use mathlib.Core.Path.{refl, ap, _∙_}
 use Rattle.laws.specs.CaseLaws.{and-next, further}

@@ -1,4 +1,4 @@
--- `scanout::refusals::judge_start` meets its contract. Assumes nothing.
+-- `scanout::refusals::judge_start` meets its contract.
 use mathlib.Core.Path.{refl, _∙_}
 use Rattle.laws.specs.CaseLaws.{and-next, further}
 use Rattle.memory.specs.Memory.{memoryCases, judgeMemory}

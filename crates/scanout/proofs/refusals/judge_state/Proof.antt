@@ -1,4 +1,4 @@
--- `scanout::refusals::judge_state` meets its contract. Assumes nothing.
+-- `scanout::refusals::judge_state` meets its contract.
 use mathlib.Core.Bool.{true, _&&_}
 use mathlib.Core.Path.{_≡_, refl, sym, ap, ap₂, _∙_}
 use Prim.Native.Nat.{ℕ}

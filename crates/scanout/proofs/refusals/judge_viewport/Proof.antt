@@ -1,4 +1,4 @@
--- `scanout::refusals::judge_viewport` meets its contract. Assumes nothing.
+-- `scanout::refusals::judge_viewport` meets its contract.
 use Rattle.memory.specs.Memory.{judgeMemory}
 use Rattle.scanout.proofs.refusals.judge_viewport.Statement.{statement}
 use Rattle.scanout.proofs.refusals.judge_viewport.Tie as tie

@@ -1,4 +1,4 @@
--- `scanout::refusals::past_frame` meets its contract. Assumes nothing.
+-- `scanout::refusals::past_frame` meets its contract.
 use mathlib.Core.Path.{refl}
 use Rattle.scanout.specs.Refusals.{pastFrame}
 use Rattle.scanout.proofs.refusals.past_frame.Statement.{statement}

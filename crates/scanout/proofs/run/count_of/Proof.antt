@@ -1,4 +1,4 @@
--- `scanout::run::count_of` meets its contract. Assumes nothing.
+-- `scanout::run::count_of` meets its contract.
 use native.Mathlib.Omega.{arith}
 use borrow.Author.Needs.{needs}
 use Rattle.scanout.specs.Calls.{countOf}

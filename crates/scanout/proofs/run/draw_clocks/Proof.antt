@@ -1,4 +1,4 @@
--- `scanout::run::draw_clocks` meets its contract. Assumes nothing.
+-- `scanout::run::draw_clocks` meets its contract.
 use mathlib.Core.Path.{ap, ap₂, _∙_}
 use Prim.Native.Nat.{ℕ, _+_, _-_}
 use native.Mathlib.Omega.{arith}

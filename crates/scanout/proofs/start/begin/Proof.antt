@@ -1,4 +1,4 @@
--- `scanout::start::begin` meets its contract. Assumes nothing.
+-- `scanout::start::begin` meets its contract.
 use mathlib.Core.Path.{ap}
 use Rattle.laws.specs.AnswerLaws.{gives-refusal, gives-answer}
 use Rattle.memory.specs.Memory.{screen}

@@ -1,4 +1,4 @@
--- `scanout::start::start` meets its contract. Assumes nothing.
+-- `scanout::start::start` meets its contract.
 use mathlib.Core.Path.{sym, ap, _∙_}
 use borrow.Author.Needs.{needs}
 use Rattle.laws.specs.AnswerLaws.{goes-on, passes-on}

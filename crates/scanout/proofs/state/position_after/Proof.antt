@@ -1,4 +1,4 @@
--- `scanout::state::position_after` meets its contract. Assumes nothing.
+-- `scanout::state::position_after` meets its contract.
 use mathlib.Core.Path.{sym, ap, _∙_}
 use Prim.Native.Nat.{ℕ, _%_}
 use native.Mathlib.Nat.{mod-self, mod-eq-of-lt}

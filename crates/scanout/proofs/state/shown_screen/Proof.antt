@@ -1,4 +1,4 @@
--- `scanout::state::shown_screen` meets its contract. Assumes nothing.
+-- `scanout::state::shown_screen` meets its contract.
 use mathlib.Core.Path.{ap}
 use Rattle.memory.specs.Memory.{screen}
 use Rattle.registers.specs.declared.Words.{Words}

@@ -1,4 +1,4 @@
--- `scanout::state::shown_words` meets its contract. Assumes nothing.
+-- `scanout::state::shown_words` meets its contract.
 use mathlib.Core.Path.{sym, _∙_}
 use Rattle.scanout.proofs.Views.{shown-first, shown-later}
 use Rattle.scanout.proofs.state.shown_words.Statement.{statement}

@@ -1,4 +1,4 @@
--- `scanout::step::spot_colour` meets its contract. Assumes nothing.
+-- `scanout::step::spot_colour` meets its contract.
 use borrow.Author.Needs.{needs}
 use Rattle.scanout.specs.Calls.{spotColour}
 use Rattle.scanout.proofs.step.spot_colour.Statement.{statement}

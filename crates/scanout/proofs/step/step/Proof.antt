@@ -1,4 +1,4 @@
--- `scanout::step::step` meets its contract. Assumes nothing.
+-- `scanout::step::step` meets its contract.
 use mathlib.Core.Path.{_≡_, refl, sym, ap, ap₂, _∙_}
 use Prim.Native.Nat.{ℕ}
 use native.Mathlib.Omega.{arith}

@@ -1,4 +1,4 @@
--- `scanout::viewport::change_viewport` meets its contract. Assumes nothing.
+-- `scanout::viewport::change_viewport` meets its contract.
 use mathlib.Core.Path.{refl}
 use Rattle.laws.specs.AnswerLaws.{gives-refusal, gives-answer}
 use Rattle.scanout.specs.Calls.{change}

@@ -1,4 +1,4 @@
--- `signals::clock::clock_of` meets its contract. Assumes nothing.
+-- `signals::clock::clock_of` meets its contract.
 use mathlib.Core.Path.{refl, ap, ap₂, _∙_}
 use native.Mathlib.Omega.{arith}
 use Rattle.registers.specs.Fields.{invvframe, invvline, invvden}

@@ -1,4 +1,4 @@
--- `signals::clock::data_word` meets its contract. Assumes nothing.
+-- `signals::clock::data_word` meets its contract.
 use borrow.Author.Needs.{needs}
 use borrow.Author.Tests.{eq-eqb, ne-eqb}
 use Rattle.signals.specs.Clock.{dataWord}

@@ -1,4 +1,4 @@
--- `signals::clock::in_sync` meets its contract. Assumes nothing.
+-- `signals::clock::in_sync` meets its contract.
 use mathlib.Core.Bool.{false}
 use mathlib.Core.List.{[], _∷_}
 use mathlib.Core.Path.{_≡_, refl}

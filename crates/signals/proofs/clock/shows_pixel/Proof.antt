@@ -1,4 +1,4 @@
--- `signals::clock::shows_pixel` meets its contract. Assumes nothing.
+-- `signals::clock::shows_pixel` meets its contract.
 use borrow.Author.Needs.{needs}
 use Rattle.signals.specs.Clock.{showsPixel}
 use Rattle.signals.proofs.clock.shows_pixel.Statement.{statement}

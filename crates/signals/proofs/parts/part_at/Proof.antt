@@ -1,4 +1,4 @@
--- `signals::parts::part_at` meets its contract. Assumes nothing.
+-- `signals::parts::part_at` meets its contract.
 use mathlib.Core.Path.{refl}
 use Prim.Native.Nat.{_-_}
 use borrow.Author.Tests.{lt-ltb, le-ltb}

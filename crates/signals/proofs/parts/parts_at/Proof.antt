@@ -1,4 +1,4 @@
--- `signals::parts::parts_at` meets its contract. Assumes nothing.
+-- `signals::parts::parts_at` meets its contract.
 use mathlib.Core.Path.{_≡_, ap₂}
 use native.Mathlib.Omega.{arith}
 use borrow.Author.Needs.{needs}

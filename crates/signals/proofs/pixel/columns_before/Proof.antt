@@ -1,4 +1,4 @@
--- `signals::pixel::columns_before` meets its contract. Assumes nothing.
+-- `signals::pixel::columns_before` meets its contract.
 use native.Mathlib.Omega.{arith}
 use Rattle.signals.specs.Core.{columnsBefore}
 use Rattle.signals.proofs.pixel.columns_before.Statement.{statement}

@@ -1,4 +1,4 @@
--- `signals::pixel::pixels_before` meets its contract. Assumes nothing.
+-- `signals::pixel::pixels_before` meets its contract.
 use mathlib.Core.Path.{sym, _∙_}
 use native.Mathlib.Omega.{arith}
 use Rattle.panel.proofs.Bounds.{line-clocks-ge}

@@ -1,4 +1,4 @@
--- `signals::pixel::pixels_in_lines` meets its contract. Assumes nothing.
+-- `signals::pixel::pixels_in_lines` meets its contract.
 use mathlib.Core.Path.{refl}
 use Prim.Native.Nat.{_-_}
 use native.Mathlib.Omega.{arith}

@@ -1,4 +1,4 @@
--- `signals::pixel::spot_of` meets its contract. Assumes nothing.
+-- `signals::pixel::spot_of` meets its contract.
 use mathlib.Core.List.{[], _∷_}
 use mathlib.Core.Path.{_≡_, refl}
 use Prim.Native.Nat.{ℕ}

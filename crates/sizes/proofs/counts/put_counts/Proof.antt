@@ -1,4 +1,4 @@
--- `sizes::counts::put_counts` meets its contract. Assumes nothing.
+-- `sizes::counts::put_counts` meets its contract.
 use native.Mathlib.Omega.{arith}
 use borrow.Author.Needs.{needs}
 use borrow.Author.Tests.{lt-ltb, le-ltb}

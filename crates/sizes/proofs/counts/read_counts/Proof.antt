@@ -1,4 +1,4 @@
--- `sizes::counts::read_counts` meets its contract. Assumes nothing.
+-- `sizes::counts::read_counts` meets its contract.
 use mathlib.Core.Path.{sym, ap, _∙_}
 use borrow.Author.Needs.{needs}
 use Rattle.laws.specs.AnswerLaws.{writes-on, leaves-on}
