@@ -1,5 +1,5 @@
--- The entries held against numbers from outside: each field's entry, by its number in the C header, has the bits of its mask in the
--- manual (source 000).
+-- The entries (§10.2) checked against independent numbers: each field's entry, by its number in the C header, has the bits of its mask in
+-- the chip's manual (§14.3).
 use mathlib.Core.List.{List, [], _∷_}
 use Prim.Native.Nat.{ℕ}
 use lib.Dec.{T}

@@ -1,5 +1,5 @@
--- The order of the 34 writable fields in a lent slice (document 01, "The nine words"): word after word in their order, the fields of
--- a word from its highest bits down. Promises cite it, so a reader must believe it.
+-- The order of the 34 writable fields in a lent slice (§10.2): word after word (§1.1), the fields of a word from its highest bits down
+-- (§1.2). Promises cite it, so a reader must believe it.
 use mathlib.Core.List.{List, _++_}
 use Prim.Native.Nat.{ℕ}
 use lib.ListN.{getD}
@@ -16,7 +16,7 @@ use Rattle.fields.specs.declared.Lcdsaddr2.{Lcdsaddr2}
 use Rattle.fields.specs.declared.Lcdsaddr3.{Lcdsaddr3}
 use Rattle.fields.specs.declared.Tpal.{Tpal}
 
--- ---- the entries of fields
+-- ---- fields as entries
 
 abbrev pub fieldEntries : Fields → List ℕ
 fieldEntries f =
@@ -30,7 +30,7 @@ fieldEntries f =
     ++ lcdsaddr3Values (f .lcdsaddr3)
     ++ tpalValues (f .tpal)
 
--- ---- the fields that entries in this order give
+-- ---- entries as fields
 
 abbrev pub lcdcon1In : List ℕ → Lcdcon1
 lcdcon1In s =

@@ -1,6 +1,6 @@
--- Fields written and read back are the same (demand 2), entry by entry: where the writer takes a slice of fields, reading the words
--- that it left gives the first 34 entries again. The claim is `entries-written-and-read`; it is proved here, and nothing need be
--- believed beyond the definitions that it names.
+-- The round trip of fields (§1.6), entry by entry: where the writer accepts a slice of fields, reading the words that it left gives the
+-- first 34 entries again. The claim is `entries-written-and-read`; it is proved here, so a reader need not believe more than the
+-- definitions it names.
 use mathlib.Core.List.{List, [], _∷_}
 use mathlib.Core.Path.{_≡_, sym, ap, _∙_}
 use Prim.Native.Nat.{ℕ, _≤_}
@@ -21,7 +21,7 @@ use Rattle.entries.specs.Order.{fieldEntries, fieldsIn}
 use Rattle.entries.specs.Reading.{readFieldsOf, readFields}
 use Rattle.entries.specs.Writing.{tooFew, loadFields, writeFieldsOf, writeFields}
 
--- fields that a slice gave go to its entries
+-- the fields of a slice, put into another, are its first 34 entries
 entries-of-fields-in : (fields out : List ℕ) → 34 ≤ length out
     → putEntries (fieldEntries (fieldsIn fields)) out ≡ leaves 0 (stores (λ i. getD fields i 0) 0 34 out)
 unfolding stores

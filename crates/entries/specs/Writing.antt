@@ -1,5 +1,5 @@
--- Writing words from a lent slice of fields to another one (document 01, "The nine words" and "Numbers of refusal"). Promises cite
--- it, so a reader must believe it.
+-- Writing words from a lent slice of fields into another one (§1.5, §10.2), and the order of its refusals (§9.3). Promises cite it, so
+-- a reader must believe it.
 use mathlib.Core.Bool.{Bool, _||_}
 use mathlib.Core.List.{List, [], _∷_}
 use Prim.Native.Nat.{ℕ}
@@ -11,18 +11,18 @@ use Rattle.fields.specs.Writing.{write}
 use Rattle.fields.specs.declared.Fields.{Fields}
 use Rattle.entries.specs.Order.{fieldsIn}
 
--- 10: fewer than 34 fields, or fewer than nine words
+-- 10 (§10.2): fewer than 34 entries for the fields, or fewer than nine for the words
 unfoldable pub tooFew : List ℕ → List ℕ → Bool
 tooFew fields out = tooShort (length fields) 34 || tooShort (length out) 9
 
--- the fields that a slice gives
+-- the fields in a slice, or 10
 unfoldable pub loadFields : List ℕ → List ℕ → Answer Fields
 loadFields fields out = judged (lowest (10 when tooFew fields out ∷ [])) (fieldsIn fields)
 
--- 12 is all that writing is refused by; the nine words to the first entries, the others stay
+-- 12 (§1.5), else the nine words as the first entries; the others stay
 unfoldable pub writeFieldsOf : Fields → List ℕ → Outcome
 writeFieldsOf f out = outcomeOn (write f) out (λ w. putEntries (wordEntries w) out)
 
--- 10 comes before 12
+-- 10 comes before 12 (§9.3)
 unfoldable pub writeFields : List ℕ → List ℕ → Outcome
 writeFields fields out = outcomeOn (loadFields fields out) out (λ f. writeFieldsOf f out)

@@ -1,4 +1,4 @@
-// The 34 writable fields of the nine words as plain numbers in a lent slice (document 01, "The nine words"): read and written. 0 is
-// done, any other answer the number of the refusal, and then nothing lent is changed.
+// The 34 writable fields of the nine words as plain numbers in a lent slice (§10.2): read and written. 0 is done; any other answer is
+// the number of a refusal, and then no lent slice changes (§9.5).
 pub mod reading;
 pub mod writing;

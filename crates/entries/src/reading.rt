@@ -1,5 +1,5 @@
-// The writable fields of the nine words, to a lent slice (document 01, "The nine words"): in the order of the words and, within a
-// word, from its highest bits down. Entries 0 to 13 are LCDCON1 to LCDCON4, 14 to 26 LCDCON5, 27 to 33 the addresses and TPAL.
+// The writable fields of the nine words into a lent slice (§1.4, §10.2): in the order of the words and, within a word, from its highest
+// bits down. Entries 0 to 13 are LCDCON1 to LCDCON4, 14 to 26 LCDCON5, 27 to 33 the addresses and TPAL.
 ghost use mathlib.Core.Path.{_≡_};
 ghost use Rattle.laws.specs.Answers.{leaves};
 ghost use Rattle.entries.specs.Order.{fieldEntries};
@@ -62,8 +62,8 @@ fn read_fields_of(w: Words, fields: &mut [u32]) -> u32
     }
 }
 
-// The 34 fields to the first 34 entries of `fields`; the others stay. 10 for a slice short of nine words, then 1, then 10 where
-// `fields` has fewer than 34 entries.
+// The 34 fields to the first 34 entries of `fields`; the others stay. 10 first where `words` has fewer than nine entries, then 1, then
+// 10 where `fields` has fewer than 34.
 pub fn read_fields(words: &[u32], fields: &mut [u32]) -> u32
     ensures { λ r. ⌜ leaves r (now (fields .exit)) ≡ readFields (now (words .entry)) (now (fields .entry)) ⌝ }
 {

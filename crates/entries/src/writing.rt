@@ -1,5 +1,5 @@
-// The nine words from the entries of a lent slice, and to another one (document 01, "The nine words", the writer): entries in the
-// order in which `reading` gives them.
+// The nine words from the fields in a lent slice, into another one (§1.5, §10.2). The fields stand in the order in which `reading` gives
+// them.
 ghost use mathlib.Core.Path.{_≡_};
 ghost use Prim.Native.Nat.{_≤_};
 ghost use lib.ListN.{length};
@@ -23,7 +23,7 @@ use fields::write;
 use registers::Words;
 use registers::put_entries;
 
-// ---- the fields in their slice
+// ---- fields from a slice
 
 fn lcdcon1_in(fields: &[u32]) -> Lcdcon1
     requires { ⌜ 34 ≤ length (now fields) ⌝ }
@@ -148,9 +148,9 @@ fn fields_in(fields: &[u32]) -> Fields
     }
 }
 
-// ---- the words in theirs
+// ---- words into a slice
 
-// The words in the order in which a slice has them.
+// The words in the order of a slice (§1.1).
 fn word_entries(w: Words) -> [u32; 9]
     ensures { λ r. ⌜ r ≡ wordEntries w ⌝ }
 {
@@ -177,7 +177,7 @@ fn write_fields_of(f: Fields, words: &mut [u32]) -> u32
 }
 
 // The words with the first 34 entries of `fields` as their fields, read-only bits 0, to the first nine entries of `words`; the others
-// stay. 10 where `fields` has fewer than 34 entries or `words` fewer than nine, then 12.
+// stay. 10 first where `fields` has fewer than 34 entries or `words` fewer than nine, then 12.
 pub fn write_fields(fields: &[u32], words: &mut [u32]) -> u32
     ensures { λ r. ⌜ leaves r (now (words .exit)) ≡ writeFields (now (fields .entry)) (now (words .entry)) ⌝ }
 {

@@ -1,5 +1,4 @@
--- T9 of document 01 ("Both sides of the line"), tried on the definitions: the nine words of the 240 by 320 panel from its
--- fields and back, and one field a bit too wide.
+-- T9 (§13.1), tried on the definitions: the nine words of the 240 by 320 panel from its fields and back, and one field a bit too wide.
 use mathlib.Core.Path.{_≡_, refl}
 use Prim.Native.Nat.{ℕ}
 use Rattle.laws.specs.Answers.{accepted, refused, judged}
@@ -10,7 +9,7 @@ use Rattle.fields.specs.Reading.{read}
 use Rattle.fields.specs.Writing.{write, fieldTooWide}
 use Rattle.fields.specs.declared.Fields.{Fields}
 
--- the panel's fields, with the PAGEWIDTH given
+-- the panel's fields, with a given PAGEWIDTH
 abbrev panel : ℕ → Fields
 panel pagewidth =
     record {

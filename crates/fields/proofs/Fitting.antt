@@ -1,4 +1,4 @@
--- Fields that are not too wide fit, word by word: what packing asks (document 01, refusal 12).
+-- Fields that are not too wide fit, word by word: what packing asks where 12 does not hold (§1.5).
 use mathlib.Core.Bool.{false}
 use mathlib.Core.Path.{_≡_}
 use Rattle.laws.specs.BitFieldLaws.{all-fit}

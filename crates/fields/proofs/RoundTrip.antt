@@ -1,5 +1,6 @@
--- The two round trips (demand 2): "Fields written and read back are the same, and so are accepted words, read-only bits apart."
--- Both follow from the layouts, word by word, by one law each. Assumes nothing but, of the words, that each has 32 bits.
+-- The two round trips (§1.6): reading what the writer made gives the fields back, and writing what was read gives the words back with
+-- their read-only bits 0. Both follow from the layouts, word by word, by one law each. The only assumption is that each word has 32
+-- bits.
 use mathlib.Core.Bool.{false}
 use mathlib.Core.List.{List}
 use mathlib.Core.Path.{_≡_, refl, sym, ap, _∙_}
@@ -157,7 +158,7 @@ module _ (f : Fields) (fit : FieldsFit f) where
   unfolding reservedBit
   clear = none-true (reservedWords (wordsOf f)) clear-words
 
--- fields that the writer takes are what reading its words gives
+-- where the writer accepts fields, reading its words gives them back
 pub fields-written-and-read : (f : Fields) (w : Words) → write f ≡ accepted w → read w ≡ accepted f
 unfolding write read
 fields-written-and-read f w e =
@@ -221,7 +222,7 @@ narrow : (w : Words) → fieldTooWide (fieldsOf w) ≡ false
 unfolding fieldTooWide
 narrow w = none-true (wideWords (fieldsOf w)) (narrow-words w)
 
--- words that reading takes are what the writer makes of their fields, but for their read-only bits
+-- where reading accepts words, the writer makes the same words of their fields, read-only bits 0
 pub words-read-and-written : (w : Words) (f : Fields) → Each32 w → read w ≡ accepted f
     → write f ≡ accepted (withoutReadOnly w)
 unfolding write read

@@ -1,5 +1,5 @@
--- What packing asks of its fields: that each fits, word by word (document 01, refusal 12). It stands in a private function's `requires`
--- only, and a reader of the promises need not believe it: that it holds where 12 does not is a law (`fields-fit`, proofs/Fitting).
+-- What packing asks of its fields: that each fits, word by word (§1.5). It stands in a private function's `requires` only, and a reader
+-- of the promises need not believe it: that it holds where refusal 12 does not is a law (`fields-fit`, proofs/Fitting).
 use Rattle.laws.specs.BitFieldLaws.{Fit}
 use Rattle.registers.specs.Layouts.{LCDCON1, LCDCON2, LCDCON3, LCDCON4, LCDCON5, LCDSADDR1, LCDSADDR2, LCDSADDR3, TPAL}
 use Rattle.fields.specs.Writing.{lcdcon1Values, lcdcon2Values, lcdcon3Values, lcdcon4Values, lcdcon5Values}

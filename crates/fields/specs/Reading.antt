@@ -1,5 +1,4 @@
--- Reading the fields of the nine words (document 01, "The nine words"): judged by refusal 1 alone. Promises cite it, so a reader must
--- believe it.
+-- Reading the fields of the nine words (§1.4), judged by refusal 1 alone (§9.3). Promises cite it, so a reader must believe it.
 use mathlib.Core.List.{[], _∷_}
 use Rattle.laws.specs.Answers.{Answer, accepted, refused, judged}
 use Rattle.laws.specs.Cases.{_when_, lowest}
@@ -19,12 +18,12 @@ use Rattle.fields.specs.declared.Tpal.{Tpal}
 use Rattle.fields.specs.declared.FieldsRead.{FieldsRead}
 use Rattle.fields.specs.declared.FieldsRead.the-variants.{Read, Refused}
 
--- the paper's number and values of an answer
+-- the answer as a value or the number of a refusal
 abbrev pub fieldsRead : FieldsRead → Answer Fields
 fieldsRead (Read f) = accepted f
 fieldsRead (Refused n) = refused n
 
--- the writable fields of each word: "read-only bits are ignored on reading"
+-- the writable fields of each word; read-only ones are left out (§1.3)
 abbrev pub lcdcon1Of : Words → Lcdcon1
 lcdcon1Of w =
     record {
@@ -88,6 +87,6 @@ fieldsOf w =
       tpal = tpalOf w;
     }
 
--- "reading fields only 1"
+-- the fields, or 1 (§1.4)
 unfoldable pub read : Words → Answer Fields
 read w = judged (lowest (1 when reservedBit w ∷ [])) (fieldsOf w)

@@ -1,5 +1,5 @@
--- The writer (document 01, "The nine words"): words from fields, read-only bits 0; judged by refusal 12 alone. Promises cite it, so a
--- reader must believe it.
+-- The writer (§1.5): words from fields, read-only bits 0 (§1.3); judged by refusal 12 alone (§9.3). Promises cite it, so a reader must
+-- believe it.
 use mathlib.Core.Bool.{Bool}
 use mathlib.Core.List.{List, [], _∷_}
 use Prim.Native.Nat.{ℕ}
@@ -22,12 +22,12 @@ use Rattle.fields.specs.declared.Tpal.{Tpal}
 use Rattle.fields.specs.declared.WordsWritten.{WordsWritten}
 use Rattle.fields.specs.declared.WordsWritten.the-variants.{Wrote, Refused}
 
--- the paper's number and values of an answer
+-- the answer as a value or the number of a refusal
 abbrev pub wordsWritten : WordsWritten → Answer Words
 wordsWritten (Wrote w) = accepted w
 wordsWritten (Refused n) = refused n
 
--- the values of each word's fields, from the highest bits down, as its layout has its free spans
+-- the values of each word's fields, from the highest bits down: the order of the free spans in its layout
 abbrev pub lcdcon1Values : Lcdcon1 → List ℕ
 lcdcon1Values f = f .clkval ∷ f .mmode ∷ f .pnrmode ∷ f .bppmode ∷ f .envid ∷ []
 
@@ -97,10 +97,10 @@ wideWords f =
     ∷ tooWide TPAL (tpalValues (f .tpal))
     ∷ []
 
--- 12: writer: a field is too wide
+-- 12 (§1.5): a field does not fit its bits
 unfoldable pub fieldTooWide : Fields → Bool
 fieldTooWide f = any (wideWords f)
 
--- "The writer gives only 12"
+-- the words, or 12 (§1.5)
 unfoldable pub write : Fields → Answer Words
 write f = judged (lowest (12 when fieldTooWide f ∷ [])) (wordsOf f)

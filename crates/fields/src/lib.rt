@@ -1,4 +1,4 @@
-// Fields and words: reading the fields of the nine words and writing words from fields (document 01, "The nine words").
+// Fields and words: reading the fields of the nine words (§1.4) and writing words from fields (§1.5).
 ghost use mathlib.Core.Path.{_≡_};
 ghost use Rattle.fields.specs.Reading.{fieldsRead, read};
 ghost use Rattle.fields.specs.Writing.{wordsWritten, write};
@@ -94,7 +94,7 @@ pub enum WordsWritten {
     Refused(u32),
 }
 
-// The fields of nine words, or 1 where a reserved bit is set. Read-only bits are ignored.
+// The writable fields of nine words, or 1 where a reserved bit is set. Read-only bits do not matter.
 pub fn read(w: Words) -> FieldsRead
     ensures { λ r. ⌜ fieldsRead r ≡ read w ⌝ }
 {

@@ -1,4 +1,4 @@
-// Packing: each word from its lowest field up, by the bits as document 01 writes them. Read-only bits are 0.
+// Packing (§1.5): each word from its lowest field up, by the bits of §1.2. Read-only bits are 0 (§1.3).
 ghost use mathlib.Core.Path.{_≡_};
 ghost use Prim.Native.Nat.{suc, _+_, _-_, _*_, _^_, _≤_, _<_};
 ghost use Rattle.laws.specs.BitFields.{pack};

@@ -1,4 +1,4 @@
-// The writable fields of each word, as the registers give them.
+// The writable fields of each word (§1.4), as the accessors of `Words` give them.
 ghost use mathlib.Core.Path.{_≡_};
 ghost use Rattle.fields.specs.Reading.{fieldsOf};
 ghost use Rattle.fields.specs.Reading.{lcdcon1Of, lcdcon2Of, lcdcon3Of, lcdcon4Of, lcdcon5Of};

@@ -1,4 +1,4 @@
-// Refusal 12: a field too wide for its bits. Each word from its lowest field up, by the bits as document 01 writes them.
+// Refusal 12 (§1.5): a field too wide for its bits. Each word from its lowest field up, by the bits of §1.2.
 ghost use mathlib.Core.Bool.{_||_};
 ghost use mathlib.Core.Path.{_≡_};
 ghost use lib.Dec.{leb};
@@ -19,7 +19,7 @@ use super::Lcdsaddr2;
 use super::Lcdsaddr3;
 use super::Tpal;
 
-// The value does not fit bits high down to low, or another one was too wide.
+// The value does not fit bits high down to low, or `another` was too wide.
 fn wider(value: u32, high: u32, low: u32, another: bool) -> bool
     requires { ⌜ (low ≤ high) × (high - low < 31) ⌝ }
     ensures { λ r. ⌜ r ≡ (leb (2 ^ (suc high - low)) value || another) ⌝ }

@@ -10,7 +10,7 @@ use Rattle.laws.specs.Cases.{_when_, lowest, lower}
 use Rattle.laws.specs.CaseLaws.{ascending, lowest-zero-none-holds}
 use Rattle.laws.specs.Answers.{Answer, accepted, refused, judged, orElse, numberOf, andThen, mapped, judgedOn, Outcome, leaves, outcome, outcomeOn}
 
--- an accepted call was judged 0, and its answer is the value
+-- an accepted call was judged 0, and gives the value
 pub judged-accepted : {A : Type 0} (n : ℕ) (a b : A) → judged n a ≡ accepted b → (n ≡ 0) × (a ≡ b)
 unfolding judged
 judged-accepted zero a b e = (refl, cc)
@@ -22,13 +22,13 @@ unfolding judged
 judged-refused zero a m e = let z : _≡_ {A = ℕ} 0 1 = cc in absurd (omega arith)
 judged-refused (suc n) a m e = (cc, omega arith)
 
--- an answer with a number is that refusal
+-- an answer whose number is not 0 is that refusal
 pub is-refused : {A : Type 0} (a : Answer A) → (numberOf a ≡ 0 → ⊥) → a ≡ refused (numberOf a)
 unfolding numberOf
 is-refused (accepted x) ne = absurd (ne refl)
 is-refused (refused m) ne = refl
 
--- and leaves what there was
+-- and `orElse` keeps b
 pub else-kept : {A B : Type 0} (f : A → B) (b : B) (a : Answer A) → (numberOf a ≡ 0 → ⊥) → orElse f b a ≡ b
 unfolding orElse numberOf
 else-kept f b (accepted x) ne = absurd (ne refl)
@@ -69,7 +69,7 @@ module _ {A : Type 0} (n : ℕ) (b : Bool) (a : A) where
       go true p = p
       go false p = absurd (omega (arith, rw p at some))
 
--- ---- how a program gives such an answer, r being the number that it found
+-- ---- how a program gives such an answer, where it found the number r
 
 pub gives-refusal : {A : Type 0} (r n : ℕ) (a : A) → r ≡ n → (r ≡ 0 → ⊥) → refused r ≡ judged n a
 unfolding judged
@@ -89,7 +89,7 @@ pub goes-on : {A B : Type 0} (x : Answer A) (f : A → Answer B) (a : A) (b : An
 unfolding andThen
 goes-on x f a b e v = v ∙ ap (λ (y : Answer _). andThen y f) e
 
--- what stands in an answer that was accepted, and the number of one that was refused, go through `mapped`
+-- `mapped` of an accepted answer, and of a refused one
 pub maps : {A B : Type 0} (f : A → B) (x : Answer A) (a : A) (b : B) → accepted a ≡ x → b ≡ f a → accepted b ≡ mapped f x
 unfolding mapped
 maps f x a b e v = ap accepted v ∙ ap (mapped f) e

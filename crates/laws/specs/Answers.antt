@@ -1,6 +1,5 @@
--- What a call of the model gives (document 01, "Numbers of refusal"): an answer, or the number of a refusal and nothing else.
--- The enum of each call is read as one of these. Promises cite these definitions, so a reader must believe them; their laws are in
--- AnswerLaws.
+-- What a call gives: its value, or the number of a refusal (§9.1, §9.2) and nothing else (§9.5). The enum of each call is read as one
+-- of these. Promises cite these definitions, so a reader must believe them; their laws are in AnswerLaws.
 use mathlib.Core.List.{List}
 use Prim.Native.Nat.{ℕ, zero, suc}
 
@@ -8,12 +7,12 @@ pub data Answer (A : Type 0) : Type 0 where
   accepted : A → Answer A
   refused : ℕ → Answer A
 
--- what is given where the call's refusal number is n: the value where that is 0 (no condition holds), else the number only
+-- the answer by the refusal number n (§9.2): the value where n is 0 (no condition holds), else n alone
 unfoldable pub judged : {A : Type 0} → ℕ → A → Answer A
 judged zero a = accepted a
 judged (suc n) a = refused (suc n)
 
--- something of an accepted answer, else what there was
+-- f of the value of an accepted answer; b where the call was refused, e.g. the old state (§9.5)
 unfoldable pub orElse : {A B : Type 0} → (A → B) → B → Answer A → B
 orElse f b (accepted a) = f a
 orElse f b (refused n) = b
@@ -23,19 +22,19 @@ unfoldable pub numberOf : {A : Type 0} → Answer A → ℕ
 numberOf (accepted a) = 0
 numberOf (refused n) = n
 
--- a call that goes on with another's answer; a refusal is passed on
+-- a call that goes on with another's value; a refusal is passed on
 unfoldable pub andThen : {A B : Type 0} → Answer A → (A → Answer B) → Answer B
 andThen (accepted a) f = f a
 andThen (refused n) f = refused n
 
--- a call that answers with something of another's answer; a refusal is passed on
+-- a call that gives f of another's value; a refusal is passed on
 unfoldable pub mapped : {A B : Type 0} → (A → B) → Answer A → Answer B
 mapped f (accepted a) = accepted (f a)
 mapped f (refused n) = refused n
 
 -- ---- a call that answers with a number only, 0 where it is done
 
--- it goes on to judge another's answer, and passes a refusal on
+-- it goes on to judge another's value; a refusal is passed on
 unfoldable pub judgedOn : {A : Type 0} → Answer A → (A → ℕ) → ℕ
 judgedOn (accepted a) f = f a
 judgedOn (refused n) f = n
@@ -50,12 +49,12 @@ pub record Outcome : Type 0 where
 abbrev pub leaves : ℕ → List ℕ → Outcome
 leaves n s = record { refusal = n; left = s }
 
--- "A refusal gives the number; lent memory stays": by the number n, the slice as it was and as it is written where n is 0
+-- by the refusal number n (§9.5): the slice as written where n is 0, else as it was
 unfoldable pub outcome : ℕ → List ℕ → List ℕ → Outcome
 outcome zero was written = leaves 0 written
 outcome (suc n) was written = leaves (suc n) was
 
--- it goes on with another's answer; a refusal is passed on, and the slice stays
+-- it goes on with another's value; a refusal is passed on, and the slice stays (§9.5)
 unfoldable pub outcomeOn : {A : Type 0} → Answer A → List ℕ → (A → Outcome) → Outcome
 outcomeOn (accepted a) was f = f a
 outcomeOn (refused n) was f = leaves n was

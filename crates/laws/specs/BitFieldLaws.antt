@@ -1,5 +1,5 @@
--- Laws of packed words: values that fit, packed and read, a word read and packed, each by one induction over the layout (document 01,
--- "The nine words"; demand 2). A reader need not believe them.
+-- Laws of packed words (§1.6): values that fit, packed and read; a word read and packed. Each is one induction over the layout. A
+-- reader need not believe them.
 use mathlib.Core.Bool.{false, _&&_}
 use mathlib.Core.List.{List, [], _∷_}
 use mathlib.Core.Path.{_≡_, refl, sym, ap, ap₂, _∙_}
@@ -69,7 +69,7 @@ module _ (q n : ℕ) (p : Span) (ps : List Span) (vs : List ℕ) (t : T (tiles n
   above : ℕ
   above = q * 2 ^ spanWidth p + nextValue (p .access) vs
 
-  -- the word is what stands above the span, with the span's value, and what is packed below it
+  -- the word is the bits above the span joined with its value, and below them what the other spans pack
   regrouped : q * 2 ^ n + pack (p ∷ ps) vs ≡ above * 2 ^ p .low + pack ps (otherValues (p .access) vs)
   unfolding above
   regrouped = rw (reaches n p ps t, pow-add 2 (spanWidth p) (p .low), add-mul, mul-assoc) (omega arith)

@@ -1,4 +1,4 @@
--- Laws of the tests true and false that the other files share. A reader need not believe them.
+-- Laws of tests that the other files share. A reader need not believe them.
 use mathlib.Core.Path.{_≡_, refl, sym, ap, _∙_}
 use mathlib.Core.Bool.{Bool, true, false, _&&_, _||_, true≢false}
 use mathlib.Core.List.{List, [], _∷_}

@@ -1,4 +1,4 @@
--- One test of several that holds. Promises cite these definitions, so a reader must believe them; laws of tests are in BooleanLaws.
+-- Whether one of several tests holds. Promises cite these definitions, so a reader must believe them; laws of tests are in BooleanLaws.
 use mathlib.Core.Bool.{Bool, false, _||_}
 use mathlib.Core.List.{List, [], _∷_}
 use Prim.Native.Nat.{ℕ, zero, suc}

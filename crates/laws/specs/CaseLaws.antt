@@ -1,5 +1,5 @@
--- Laws of numbered conditions: the first that holds where numbers rise, what acceptance says, lists that are joined. A reader need
--- not believe them.
+-- Laws of numbered conditions (§9.2): the first that holds where numbers rise, what acceptance says, lists that are joined. A reader
+-- need not believe them.
 use mathlib.Core.Path.{_≡_, refl, sym, ap, ap₂, _∙_}
 use mathlib.Core.Bool.{Bool, true, false, cond, _&&_}
 use mathlib.Core.List.{List, [], _∷_, _++_}
@@ -129,7 +129,7 @@ front-ascends n (c ∷ cs) ds t =
     (and-left (ltb n (c .number)) (ascending (c .number) (cs ++ ds)) t)
     (front-ascends (c .number) cs ds (onward n c (cs ++ ds) t))
 
--- r, the lowest number of a list's front, is the whole list's where some condition of the front holds
+-- where some condition of a list's front holds, its lowest number r is the whole list's
 pub front-refuses : (r : ℕ) (cs ds : List Case) → T (ascending 0 (cs ++ ds)) → r ≡ lowest cs → (r ≡ 0 → ⊥)
     → r ≡ lowest (cs ++ ds)
 front-refuses r cs ds t e ne =
@@ -158,7 +158,7 @@ both-pass cs ds t u e = (front, first-none 0 ds u (sym (front-passes (lowest cs)
         go (yes z) = z
         go (no ne) = absurd (ne (front-refuses (lowest cs) cs ds t refl ne ∙ e))
 
--- ---- lists that do not rise together: each of several views has its own
+-- ---- lists that do not rise together: each of several viewports has its own (§9.4)
 
 pub lower-min : (a b : ℕ) → 0 < a → 0 < b → lower a b ≡ min a b
 unfolding lower
@@ -238,7 +238,7 @@ lowest-up-to n (c ∷ cs) t = go (c .holds) (lowest-up-to n cs (and-right (leb (
     go true h = lower-le (c .number) (lowest cs) n (leb→le (c .number) n (and-left (leb (c .number) n) (upTo n cs) t)) h
     go false h = h
 
--- r, the lowest number of such a front, is the whole list's where some condition of the front holds and the rest rises from n
+-- where some condition of such a front holds and the rest rises from n, the front's lowest number r is the whole list's
 pub several-refuse : (r n : ℕ) (cs ds : List Case) → T (upTo n cs) → T (ascending n ds) → r ≡ lowest cs → (r ≡ 0 → ⊥)
     → r ≡ lowest (cs ++ ds)
 several-refuse r n cs ds u t e ne =
@@ -263,7 +263,7 @@ several-pass r n cs ds t e z =
 
 -- ---- one condition after another, in a straight line
 
--- how a program gives it
+-- how a program gives `andWhere`
 module _ (r : ℕ) (b : Bool) (n : ℕ) where
   pub and-where-refused : (r ≡ 0 → ⊥) → r ≡ andWhere r b n
   unfolding andWhere
@@ -305,7 +305,7 @@ through-first n (c ∷ ds) t = go (c .holds) (c .number) (rises n c ds t) (throu
 pub and-next : (n : ℕ) {r x : ℕ} {b y : Bool} {k : ℕ} → k ≡ andWhere r b n → r ≡ x → b ≡ y → k ≡ andWhere x y n
 and-next n e p q = e ∙ ap₂ (λ (i : ℕ) (c : Bool). andWhere i c n) p q
 
--- r, the lowest number of a front whose numbers are n at most, and then each condition of a rest that rises from n
+-- r, the lowest number of a front whose numbers are n at most, carried through a rest that rises from n, is the whole list's
 pub further : (r n : ℕ) (cs ds : List Case) → T (upTo n cs) → T (ascending n ds) → r ≡ lowest cs
     → through r ds ≡ lowest (cs ++ ds)
 further zero n cs ds u t e = through-first n ds t ∙ sym (several-pass zero n cs ds t e refl)

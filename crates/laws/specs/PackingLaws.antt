@@ -1,4 +1,4 @@
--- Laws of the fields of a number, cut out by masks, moved by shifts and joined by `|` from the lowest on, as the sum that they are.
+-- Laws of fields that are cut out by masks, moved by shifts and joined by `|` from the lowest up: the word is their sum.
 -- Widths and places are numerals at each use, so the side conditions compute. A reader need not believe them.
 use mathlib.Core.Path.{_≡_, sym, ap, _∙_}
 use Prim.Native.Nat.{ℕ, _+_, _-_, _*_, _/_, _%_, _^_, _<_}
@@ -18,7 +18,7 @@ pub record Field (b f width low : ℕ) : Type 0 where
   pub is : b ≡ f * 2 ^ low
   pub fits : f < 2 ^ width
 
--- under a mask, then moved up inside a word
+-- masked, then moved up inside a word
 pub masked-moved-up : (v width low up : ℕ) → T (leb (width + (low + up)) 32)
     → Field ((bitAnd v (2 ^ (width + low) - 2 ^ low) * 2 ^ up) % 2 ^ 32) (v / 2 ^ low % 2 ^ width) width (low + up)
 masked-moved-up v width low up t =
@@ -33,7 +33,7 @@ masked-moved-up v width low up t =
       fits = fits;
     }
 
--- moved down, then under a mask
+-- moved down, then masked
 pub moved-down-masked : (v width low down : ℕ)
     → Field (bitAnd (v / 2 ^ down) (2 ^ (width + low) - 2 ^ low)) (v / 2 ^ (down + low) % 2 ^ width) width low
 moved-down-masked v width low down =
@@ -44,7 +44,7 @@ moved-down-masked v width low down =
       fits = field-lt (v / 2 ^ (down + low)) width;
     }
 
--- the lowest field, moved up until all above it has left the word
+-- the lowest field, moved up until every bit above it has left the word
 pub moved-to-top : (v width up : ℕ) → Field ((v * 2 ^ up) % 2 ^ (width + up)) (v % 2 ^ width) width up
 moved-to-top v width up =
     record {

@@ -40,7 +40,7 @@ bits-beyond v k = go (leb (2 ^ k) v) refl
     go true e = lt-ltb 0 (v / 2 ^ k) (le-div-iff-mul-le (pow-pos k) .1 (rw one-mul (leb-true (2 ^ k) v e)))
     go false e = le-ltb 0 (v / 2 ^ k) (le-of-eq (div-eq-of-lt (leb-false (2 ^ k) v e)))
 
--- two numbers' bits together hold a 1 where one of the two numbers does
+-- the or of two numbers has a bit set where one of them has
 some-bit-of-either : (x y : ℕ) → ltb 0 (bitOr x y) ≡ ltb 0 x || ltb 0 y
 some-bit-of-either zero y = ap (ltb 0) (or-zero-l y)
 some-bit-of-either (suc x) y =

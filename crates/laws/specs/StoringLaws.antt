@@ -18,7 +18,7 @@ unfolding stores
 length-stores g at zero d = refl
 length-stores g at (suc n) d = length-set (stores g at n d) (at + n) (g n) ∙ length-stores g at n d
 
--- of what a call left
+-- the length of what a call left
 pub left-length : (g : ℕ → ℕ) (at n : ℕ) (d left : List ℕ) → left ≡ stores g at n d → length left ≡ length d
 left-length g at n d left e = ap length e ∙ length-stores g at n d
 
@@ -66,7 +66,7 @@ stores-add g at m (suc n) d =
 
 -- ---- a loop's invariant
 
--- so many entries are stored, and the slice is as long as it was
+-- `done` entries are stored, and the slice is as long as it was
 pub record Stored (g : ℕ → ℕ) (at : ℕ) (d out : List ℕ) (done : ℕ) : Type 0 where
   pub is : out ≡ stores g at done d
   pub size : length out ≡ length d

@@ -1,4 +1,4 @@
--- A rule of a table, proved at all of its entries by one test that antt computes. A reader need not believe it.
+-- A rule of a table, proved at every entry by one test that antt computes. A reader need not believe it.
 use mathlib.Core.Bool.{Bool, true, _&&_}
 use mathlib.Core.List.{List, [], _∷_}
 use Prim.Native.Nat.{ℕ, zero, suc, _<_}

@@ -1,5 +1,5 @@
--- What walks by hand share (the kit's guide, "The walk, from the entry to the exit"): steps that several take, and a walk whose
--- parameters are all given up. A reader need not believe them.
+-- What hand-written walks share (the kit's guide PROOFS, section 3): steps that several take, and a walk whose parameters are all given
+-- up. A reader need not believe them.
 use mathlib.Core.Path.{_≡_, sym, subst}
 use Prim.Native.Nat.{ℕ, zero}
 use mathlib.Core.List.{List, [], _∷_}
@@ -30,7 +30,7 @@ use denote.Triple.Walked.{Stays, stay-dropped, hasOf, fitsOf, walkOf, ends-at, S
 
 -- ---- steps
 
--- what a callee asks that has no `requires`
+-- what a callee without `requires` asks
 pub no-requires : {M : Type 1} (𝓤 : URA M) (P : SProp 𝓤) → ent 𝓤 P (sep 𝓤 P (emp 𝓤))
 no-requires 𝓤 P = via 𝓤 (sep 𝓤 (emp 𝓤) P) (emp∗ 𝓤 P) (comm∗ 𝓤 (emp 𝓤) P)
 

@@ -1,5 +1,5 @@
--- Refusal 8 in closed form, and what its absence gives (document 01, "Where a pixel lies", "Numbers of refusal"): all words of all
--- rows lie in the lent memory exactly when the first row does not start before it and the last does not end after it.
+-- Refusal 8 in closed form (§3.6), and what follows where it does not hold: all words of all rows are lent exactly when the first row
+-- does not start before the lent memory and the last does not end after it.
 use mathlib.Core.Bool.{Bool, true, false, not, _||_, true≢false}
 use mathlib.Core.Path.{_≡_, refl, sym, ap, _∙_}
 use Prim.Native.Nat.{ℕ, _+_, _-_, _*_, _/_, _%_, _^_, _≤_}
@@ -104,7 +104,7 @@ module _ (w : Words) (a : Accepted w) (window-start lent : ℕ) where
       go false e true e′ = last-word e′
       go false e false e′ = inside e e′
 
-  -- ---- how a program looks: at the start, and then at the end
+  -- ---- how a program judges it: the start first, then the end
 
   pub outside-early : not (eqb (window-start % 4) 0) || beforeWindow w window-start ≡ true → true ≡ outsideMemory (screen w window-start) lent
   outside-early t = go (not (eqb (window-start % 4) 0)) (beforeWindow w window-start) (pastWindow w window-start lent) t ∙ sym closed-form

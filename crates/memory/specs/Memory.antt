@@ -1,6 +1,5 @@
--- The lent video memory (document 01, "Where a pixel lies" and refusal 8). It is lent as 32-bit words; the byte address of the first,
--- the window start, is given with the nine words. Addresses are plain numbers and never wrap.
--- Promises cite it, so a reader must believe it.
+-- The lent video memory (§3.1), the address of a row in it (§3.2), refusal 8 (§3.6) and the check (§9.3). The window start is the byte
+-- address of the first lent word; addresses are plain numbers and never wrap. Promises cite it, so a reader must believe it.
 use mathlib.Core.Bool.{Bool, not, _||_}
 use mathlib.Core.List.{List, [], _∷_, _++_}
 use Prim.Native.Nat.{ℕ, _+_, _-_, _*_, _/_, _%_, _^_}
@@ -16,41 +15,41 @@ use Rattle.registers.specs.Loading.{load}
 use Rattle.registers.specs.declared.Words.{Words}
 use Rattle.memory.specs.declared.Screen.{Screen}
 
--- "Row r starts at byte (LCDBANK × 2^22) + 2 × (LCDBASEU + r × (PAGEWIDTH + OFFSIZE))."
+-- the byte address of row r (§3.2)
 unfoldable pub rowAddress : Words → ℕ → ℕ
 rowAddress w r = lcdbank w * 2 ^ 22 + 2 * rowOffset w r
 
--- "Each row is PAGEWIDTH half-words long": so many words, PAGEWIDTH being even wherever 8 is given (refusal 5)
+-- the words of a row (§3.2): PAGEWIDTH counts half-words, and is even wherever 8 is given (5 comes before, §3.4)
 abbrev pub rowWords : Words → ℕ
 rowWords w = pagewidth w / 2
 
--- what a call is given beside what it is lent
+-- what a call is given beside what it is lent (§3.1)
 abbrev pub screen : Words → ℕ → Screen
 screen w window-start = record { words = w; «window_start» = window-start }
 
--- the four bytes from an address on do not all lie in the lent words, of which there are `lent`
+-- the word at an address is not, or not wholly, one of the `lent` words from the window start on (§3.6)
 unfoldable pub wordOutside : ℕ → ℕ → ℕ → Bool
 wordOutside window-start lent address = ltb address window-start || ltb (window-start + 4 * lent) (address + 4)
 
--- 8: window start isn't a multiple of 4, or a word of some row lies outside the lent memory
+-- 8 (§3.6): the window start is not aligned to 4 bytes, or a word of a row is not lent
 unfoldable pub outsideMemory : Screen → ℕ → Bool
 outsideMemory s lent =
     not (eqb (s .«window_start» % 4) 0)
     || someBelow (height (s .words)) (λ r.
     someBelow (rowWords (s .words)) (λ i. wordOutside (s .«window_start») lent (rowAddress (s .words) r + 4 * i)))
 
--- the conditions on the words and the lent memory
+-- the conditions on the words and the lent memory (§9.1)
 abbrev pub memoryCases : Screen → ℕ → List Case
 memoryCases s lent = wordCases (s .words) ++ (8 when outsideMemory s lent ∷ [])
 
--- by 1 to 8, 0 where none applies
+-- the lowest of 1 to 8 that holds, 0 where none does (§9.2)
 unfoldable pub judgeMemory : Screen → ℕ → ℕ
 judgeMemory s lent = lowest (memoryCases s lent)
 
--- the check: "10 for a slice short of nine words", then 1 to 8
+-- the check (§9.3): 10 first where `words` has fewer than nine entries, then 1 to 8
 unfoldable pub check : List ℕ → ℕ → List ℕ → ℕ
 check words window-start memory = judgedOn (load words) (λ w. judgeMemory (screen w window-start) (length memory))
 
--- the place, among the lent words, of a row's first word
+-- the index of a row's first word among the lent words (§3.2)
 unfoldable pub firstWord : Screen → ℕ → ℕ
 firstWord s r = (rowAddress (s .words) r - s .«window_start») / 4

@@ -1,4 +1,4 @@
-// The lent video memory (document 01, "Where a pixel lies", "Numbers of refusal"): where a row lies in it, refusal 8, and the check.
+// The lent video memory (§3.1): where a row lies in it (§3.2), refusal 8 (§3.6), and the check (§9.3).
 ghost use mathlib.Core.Path.{_≡_};
 ghost use Prim.Native.Nat.{_^_, _<_};
 ghost use Rattle.panel.specs.Refusals.{judge};
@@ -10,20 +10,20 @@ use registers::Loaded;
 use registers::Words;
 use registers::load;
 
-// What a screen is drawn by, beside what is lent: the nine words, and the byte address of the lent memory's first word.
+// What a screen is drawn from beside the lent slices: the nine words, and the byte address of the first lent word (the window start).
 pub struct Screen {
     pub words: Words,
     pub window_start: u32,
 }
 
-// The byte address at which a row starts.
+// The byte address at which a row starts (§3.2).
 pub fn row_address(w: Words, row: u32) -> u64
     ensures { λ r. ⌜ r ≡ rowAddress w row ⌝ }
 {
     w.lcdbank() as u64 * 0x40_0000 + 2 * row_offset(w, row)
 }
 
-// The place of a row's first word among the lent words; 0 for a row that starts before them.
+// The index of a row's first word among the lent words; 0 for a row that starts before them.
 pub fn first_word(s: Screen, row: u32) -> usize
     ensures { λ r. ⌜ r ≡ firstWord s row ⌝ }
     ensures { λ r. ⌜ r < 2 ^ 44 ⌝ }
@@ -36,7 +36,7 @@ pub fn first_word(s: Screen, row: u32) -> usize
     ((address - window_start) / 4) as usize
 }
 
-// Refusal 8, where 1 to 7 are past: it is enough to look at the first row and at the last.
+// Refusal 8 (§3.6) of words that 1 to 7 accept: it is enough to look at the first row and the last.
 fn outside_memory(s: Screen, lent: usize) -> bool
     requires { ⌜ judge (s .words) ≡ 0 ⌝ }
     ensures { λ r. ⌜ r ≡ outsideMemory s lent ⌝ }
@@ -50,7 +50,7 @@ fn outside_memory(s: Screen, lent: usize) -> bool
     (lent as u64) < (end - window_start) / 4
 }
 
-// The lowest of the numbers 1 to 8 whose condition holds, 0 where none does, where so many words are lent.
+// The lowest of 1 to 8 whose condition holds, 0 where none does (§9.2), where `lent` words are lent.
 pub fn judge_memory(s: Screen, lent: usize) -> u32
     ensures { λ r. ⌜ r ≡ judgeMemory s lent ⌝ }
 {
@@ -74,7 +74,7 @@ fn check_words(words: Words, window_start: u32, lent: usize) -> u32
     judge_memory(s, lent)
 }
 
-// The check: the lowest number that applies, 10 for a slice short of nine words before 1 to 8, and 0 where none does.
+// The check: 10 first where `words` has fewer than nine entries, then the lowest of 1 to 8; 0 where none holds.
 pub fn check(words: &[u32], window_start: u32, video: &[u32]) -> u32
     ensures { λ r. ⌜ r ≡ check (now (words .entry)) «window_start» (now (video .entry)) ⌝ }
 {

@@ -1,4 +1,4 @@
--- What acceptance by 1 to 7 gives (document 01, "Numbers of refusal"): the facts that the floors above build on, each once.
+-- What acceptance by 1 to 7 gives (§9.1): the facts that other crates build on, each once.
 use mathlib.Core.Bool.{Bool, true, false, not, _&&_, _||_, true≢false, false≢true}
 use mathlib.Core.Path.{_≡_, sym, ap, _∙_}
 use Prim.Native.Nat.{ℕ, _+_, _-_, _*_, _/_, _%_, _^_, _<_, _≤_}
@@ -134,7 +134,7 @@ module _ (w : Words) (a : Accepted w) where
   pub row-in-words : width w * storedBits (bppmode w) ≡ pagewidth w / 2 * 32
   row-in-words = omega (arith, a .row-bits, a .row-even)
 
-  -- which hold its pixels, each as many as a word has room for
+  -- which hold its pixels, 32 / S to a word
   pub pixels-in-row : width w ≡ pagewidth w / 2 * (32 / storedBits (bppmode w))
   pixels-in-row =
       whole-words (width w) (storedBits (bppmode w)) (pagewidth w / 2) (32 / storedBits (bppmode w))
@@ -146,7 +146,7 @@ module _ (w : Words) (a : Accepted w) where
   row-inside-bank r h =
       omega (arith, a .last-row-inside, mul-le-mul-right {m = r} {n = height w - 1} (pitch w) (omega arith))
 
-  -- and starts at a word
+  -- and starts at a whole word
   pub row-starts-at-word : (r : ℕ) → rowOffset w r % 2 ≡ 0
   unfolding rowOffset
   row-starts-at-word r =

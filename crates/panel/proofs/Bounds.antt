@@ -1,5 +1,4 @@
--- Bounds of every size that the fields can give, whatever the words (document 01, "The nine words"; demand 1: nothing
--- overflows).
+-- Bounds of every size that the fields can give, whatever the words (§2.1, §3.2, §6.1 to §6.3), so that nothing overflows.
 use Prim.Native.Nat.{ℕ, _+_, _*_, _≤_, _^_}
 use native.Mathlib.Omega.{arith}
 use Rattle.laws.specs.ProductLaws.{product-le}

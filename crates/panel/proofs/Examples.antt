@@ -1,6 +1,5 @@
--- Worked examples of document 01 ("The bench", "Both sides of the line", "Numbers of refusal"), tried on the definitions: T1's
--- counts, T8, T11, the extremes of ticks and rate, the rate that a rounded pixel clock would miss, and both sides of each
--- refusal. Their numbers are worked out by hand from the paper.
+-- Worked cases (§13.1), tried on the definitions: T1's counts, T8, T11, the extremes of ticks and rate (§6.3, §6.4), the rate that a
+-- rounded pixel clock would miss (§13.2), and both sides of each of 1 to 7 (§9.1). Their numbers are worked out by hand.
 use mathlib.Core.Bool.{Bool, true, false, _&&_}
 use mathlib.Core.List.{List, [], _∷_}
 use mathlib.Core.Path.{_≡_, refl, ap, ap₂, _∙_}
@@ -75,7 +74,7 @@ words gives n = record { words = words; number = n }
 abbrev pub verdicts : List Verdict
 verdicts =
     (0x479 ∷ 0x014FC041 ∷ 0x0098EF09 ∷ 0x9 ∷ 0xB09 ∷ 0x18000000 ∷ 0x12C00 ∷ 0xF0 ∷ 0 ∷ []) gives 0
-    -- 1: the lowest reserved bit of LCDCON1, of LCDCON5 and of TPAL; all read-only bits draw nothing
+    -- 1: the lowest reserved bit of LCDCON1, of LCDCON5 and of TPAL; read-only bits, all set, give no refusal
     ∷ (0x10000479 ∷ 0x014FC041 ∷ 0x0098EF09 ∷ 0x9 ∷ 0xB09 ∷ 0x18000000 ∷ 0x12C00 ∷ 0xF0 ∷ 0 ∷ []) gives 1
     ∷ (0x479 ∷ 0x014FC041 ∷ 0x0098EF09 ∷ 0x9 ∷ 0x20B09 ∷ 0x18000000 ∷ 0x12C00 ∷ 0xF0 ∷ 0 ∷ []) gives 1
     ∷ (0x479 ∷ 0x014FC041 ∷ 0x0098EF09 ∷ 0x9 ∷ 0xB09 ∷ 0x18000000 ∷ 0x12C00 ∷ 0xF0 ∷ 0x2000000 ∷ []) gives 1
@@ -128,7 +127,7 @@ never-fits w m v =
     let bits : width w * storedBits (bppmode w) ≡ 1024 * 32 = ap₂ _*_ v (ap storedBits m) in
     rw (ne-eqb (16 * pagewidth w) (width w * storedBits (bppmode w)) (λ e. omega (arith, bits, e)))
 
--- and width 1024 gives 5 with any field, where 1 to 4 do not apply
+-- so width 1024 gives 5, whatever the fields, where 1 to 4 do not apply
 pub width-1024 : (w : Words) → bppmode w ≡ 13 → width w ≡ 1024 → reservedBit w ≡ false
     → notTft w ≡ false → swapsIllegal w ≡ false → judge w ≡ 5
 unfolding judge first noSuchMode outsideModes

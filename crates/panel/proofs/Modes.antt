@@ -1,4 +1,4 @@
--- The mode table (document 01, "The nine words"): what lies outside 8..13, and what the modes inside select.
+-- The modes (§2.2): what lies outside 8..13, and what the modes inside select.
 use mathlib.Core.Bool.{Bool, true, false, _&&_, and-eq-true-iff}
 use mathlib.Core.List.{[], _∷_}
 use mathlib.Core.Path.{_≡_, refl, sym}
@@ -25,7 +25,7 @@ pub outside-stores-none : (mode : ℕ) → outsideModes mode ≡ true → stored
 unfolding storedBits
 outside-stores-none mode o = rw o
 
--- one more number that a mode is not
+-- one more number is ruled out for a mode
 pub past : (n mode : ℕ) → n ≤ mode → (mode ≡ n → ⊥) → n < mode
 past n mode l ne = omega arith
 

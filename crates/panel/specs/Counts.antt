@@ -1,5 +1,5 @@
--- Counts and rate (document 01, "Clocks and lines"): judged by 1 to 7, after 10 for a slice short of nine words. Promises cite it, so
--- a reader must believe it.
+-- A frame's clocks and HCLK ticks (§6.3) and its rate (§6.4), of words that `accept` passes (§9.3). Promises cite it, so a reader must
+-- believe it.
 use mathlib.Core.List.{List}
 use Prim.Native.Nat.{ℕ, _+_, _*_, _/_}
 use Rattle.laws.specs.Answers.{Answer, accepted, refused, mapped}
@@ -13,7 +13,7 @@ use Rattle.panel.specs.declared.frame.Counts.{Counts}
 use Rattle.panel.specs.declared.frame.Rated.{Rated}
 use Rattle.panel.specs.declared.frame.Rated.the-variants.{Millihertz, Refused as NoRate}
 
--- the paper's number and values of an answer
+-- the answer as a value or the number of a refusal
 abbrev pub counted : Counted → Answer Counts
 counted (Frame c) = accepted c
 counted (NoFrame n) = refused n
@@ -22,11 +22,11 @@ abbrev pub rated : Rated → Answer ℕ
 rated (Millihertz m) = accepted m
 rated (NoRate n) = refused n
 
--- "A frame is L × C clocks and 2 × (CLKVAL+1) × L × C HCLK ticks."
+-- HCLK ticks of a frame: 2 × (CLKVAL+1) for each clock (§6.3)
 unfoldable pub frameTicks : Words → ℕ
 frameTicks w = 2 * (clkval w + 1) * frameClocks (timing w)
 
--- "Rate in millihertz: HCLK in Hz × 1000 over the ticks, rounded down."
+-- the frame rate in millihertz, rounded down, for an HCLK in Hz (§6.4)
 abbrev pub frameMillihertz : Words → ℕ → ℕ
 frameMillihertz w hclk = hclk * 1000 / frameTicks w
 
@@ -34,7 +34,7 @@ frameMillihertz w hclk = hclk * 1000 / frameTicks w
 abbrev pub countsOf : Words → Counts
 countsOf w = record { clocks = frameClocks (timing w); ticks = frameTicks w }
 
--- "counts and rate are judged by 1 to 7", by the words that a slice begins with
+-- by the words in a slice: 10 first where it has fewer than nine entries, then 1 to 7 (§9.3)
 unfoldable pub counts : List ℕ → Answer Counts
 counts s = mapped countsOf (accept s)
 

@@ -1,5 +1,5 @@
--- The conditions numbered 2 to 7, and 9 (document 01, "Numbers of refusal"), and the judgement by 1 to 7, which leaves 9 to others.
--- Promises cite it, so a reader must believe it.
+-- Refusals 2 to 7 and 9 (§9.1; the rules of 3 to 7 are in §2.2, §4.4, §3.4 and §3.5), and the judgement by 1 to 7 (§9.2); 9 is judged
+-- elsewhere. Promises cite it, so a reader must believe it.
 use mathlib.Core.Bool.{Bool, not, _&&_, _||_}
 use mathlib.Core.List.{List, [], _∷_}
 use Prim.Native.Nat.{ℕ, _+_, _-_, _*_, _%_, _^_}
@@ -11,19 +11,18 @@ use Rattle.registers.specs.Loading.{load}
 use Rattle.registers.specs.declared.Words.{Words}
 use Rattle.panel.specs.Geometry.{width, height, storedBits, outsideModes, rowOffset}
 
--- 2: PNRMODE is not 3
+-- 2 (§9.1): PNRMODE does not select TFT
 unfoldable pub notTft : Words → Bool
 notTft w = not (eqb (pnrmode w) 3)
 
--- 3: BPPMODE is outside 8..13
+-- 3 (§2.2): BPPMODE is none of 8 to 13
 unfoldable pub noSuchMode : Words → Bool
 noSuchMode w = outsideModes (bppmode w)
 
 abbrev pub upToByte : ℕ → Bool
 upToByte bits = eqb bits 1 || eqb bits 2 || eqb bits 4 || eqb bits 8
 
--- 4: the swap bits aren't legal for the mode
--- "Legal (house): BSWP with 1, 2, 4, 8 bits only; HWSWP with 16 only; never both."
+-- 4 (§4.4): BSWP above 8 bits, HWSWP at other than 16, or both
 unfoldable pub swapsIllegal : Words → Bool
 swapsIllegal w =
     (eqb (bswp w) 1 && not (upToByte (storedBits (bppmode w))))
@@ -33,20 +32,20 @@ swapsIllegal w =
 abbrev odd : ℕ → Bool
 odd n = eqb (n % 2) 1
 
--- 5: 16 × PAGEWIDTH differs from W × S, or LCDBASEU, PAGEWIDTH or OFFSIZE is odd (house)
+-- 5 (§3.4): PAGEWIDTH half-words are not W pixels of S bits, or one of LCDBASEU, PAGEWIDTH and OFFSIZE is odd
 unfoldable pub rowSizeWrong : Words → Bool
 rowSizeWrong w =
     not (eqb (16 * pagewidth w) (width w * storedBits (bppmode w))) || odd (lcdbaseu w) || odd (pagewidth w) || odd (offsize w)
 
--- 6: LCDBASEL differs from LCDBASEU + (PAGEWIDTH+OFFSIZE) × H, modulo 2^21
+-- 6 (§3.5): LCDBASEL is not where a row after the last would start, modulo 2^21
 unfoldable pub endDiffers : Words → Bool
 endDiffers w = not (eqb (lcdbasel w) (rowOffset w (height w) % 2 ^ 21))
 
--- 7: LCDBASEU + (H-1) × (PAGEWIDTH+OFFSIZE) + PAGEWIDTH exceeds 2^21
+-- 7 (§3.5): the last row ends past the bank's 2^21 half-words
 unfoldable pub pastBank : Words → Bool
 pastBank w = ltb (2 ^ 21) (rowOffset w (height w - 1) + pagewidth w)
 
--- the conditions on the words alone
+-- the conditions on the words alone (§9.1)
 abbrev pub wordCases : Words → List Case
 wordCases w =
     1 when reservedBit w
@@ -58,14 +57,14 @@ wordCases w =
     ∷ 7 when pastBank w
     ∷ []
 
--- "The lowest number that applies to the call is given": by 1 to 7, 0 where none applies
+-- the lowest of 1 to 7 that holds, 0 where none does (§9.2)
 unfoldable pub judge : Words → ℕ
 judge w = lowest (wordCases w)
 
--- the words that a slice begins with, where 1 to 7 accept them: "10 for a slice short of nine words" comes before all
+-- the words in a slice: 10 first where it has fewer than nine entries, then 1 to 7 (§9.2)
 unfoldable pub accept : List ℕ → Answer Words
 accept s = andThen (load s) (λ w. judged (judge w) w)
 
--- 9: ENVID is 0, where a call shows the screen
+-- 9 (§9.1): video is off; only calls that show the screen are judged by it (§9.3)
 unfoldable pub videoOff : Words → Bool
 videoOff w = eqb (envid w) 0

@@ -1,5 +1,5 @@
--- Clocks and lines of a frame (document 01, "Clocks and lines"), over the eight fields that set them. Each part is a field + 1, so
--- none is 0. Promises cite it, so a reader must believe it.
+-- Lines and clocks of a frame (§6.1 to §6.3), over the eight fields that set them. Each part is a field + 1, so none is 0. Promises
+-- cite it, so a reader must believe it.
 use Prim.Native.Nat.{ℕ, _+_, _*_}
 use Rattle.registers.specs.Fields as Fields
 use Rattle.registers.specs.declared.Words.{Words}
@@ -27,14 +27,14 @@ timing w =
       hfpd = Fields.hfpd w;
     }
 
--- "Line length C = (HSPW+1) + (HBPD+1) + W + (HFPD+1) clocks."
+-- C, the clocks of a line (§6.1)
 unfoldable pub lineClocks : Timing → ℕ
 lineClocks t = (t .hspw + 1) + (t .hbpd + 1) + (t .hozval + 1) + (t .hfpd + 1)
 
--- "Frame height L = (VSPW+1) + (VBPD+1) + H + (VFPD+1) lines."
+-- L, the lines of a frame (§6.2)
 unfoldable pub frameLines : Timing → ℕ
 frameLines t = (t .vspw + 1) + (t .vbpd + 1) + (t .lineval + 1) + (t .vfpd + 1)
 
--- "A frame is L × C clocks"
+-- the clocks of a frame (§6.3)
 unfoldable pub frameClocks : Timing → ℕ
 frameClocks t = frameLines t * lineClocks t

@@ -1,5 +1,5 @@
-// A frame's clocks, HCLK ticks and rate, by the nine words that a slice begins with. A caller that wants several of them takes
-// the words by `accept` and asks `timing` for each: judged once.
+// A frame's clocks and HCLK ticks (§6.3) and its rate (§6.4), by the nine words that a slice begins with. A caller that wants all of
+// them takes the words by `accept`, which judges them once, and asks `timing` for each.
 ghost use mathlib.Core.Path.{_≡_};
 ghost use Rattle.panel.specs.Counts.{counted, counts, rated, rate};
 use super::refusals::accept;
@@ -8,7 +8,7 @@ use super::timing::frame_millihertz;
 use super::timing::frame_ticks;
 use registers::Loaded;
 
-// The length of a frame.
+// The length of a frame, in clocks and in HCLK ticks.
 pub struct Counts {
     pub clocks: u32,
     pub ticks: u64,
@@ -26,7 +26,7 @@ pub enum Rated {
     Refused(u32),
 }
 
-// A frame's clocks and HCLK ticks, or the number of the refusal: 10 for a slice short of nine words, then 1 to 7.
+// A frame's clocks and HCLK ticks, or a refusal: 10 first where `words` has fewer than nine entries, then 1 to 7.
 pub fn frame_counts(words: &[u32]) -> Counted
     ensures { λ r. ⌜ counted r ≡ counts (now (words .entry)) ⌝ }
 {
@@ -39,7 +39,7 @@ pub fn frame_counts(words: &[u32]) -> Counted
     }
 }
 
-// The frame rate in millihertz, rounded down, or the number of the refusal: 10 for a slice short of nine words, then 1 to 7.
+// The frame rate in millihertz, rounded down, or a refusal: 10 first where `words` has fewer than nine entries, then 1 to 7.
 pub fn frame_rate(words: &[u32], hclk: u32) -> Rated
     ensures { λ r. ⌜ rated r ≡ rate (now (words .entry)) hclk ⌝ }
 {

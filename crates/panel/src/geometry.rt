@@ -1,10 +1,10 @@
-// The panel's size, the stored bits of a pixel and where a row starts.
+// The panel's size (§2.1), the stored bits of a pixel (§2.2) and where a row starts in the bank (§3.2).
 ghost use mathlib.Core.Path.{_≡_};
 ghost use Rattle.registers.specs.Fields.{bppmode};
 ghost use Rattle.panel.specs.Geometry.{width, height, depth, depthOf, storedBits, pitch, rowOffset};
 use registers::Words;
 
-// What a mode number selects: the stored bits of a pixel, or a refusal's number.
+// What a BPPMODE selects: the stored bits of a pixel, or a refusal's number.
 pub enum Depth {
     Stored(u32),
     Refused(u32),
@@ -24,7 +24,7 @@ pub fn height(w: Words) -> u32
     w.lineval() + 1
 }
 
-// The stored bits of a pixel for a BPPMODE number, or 3.
+// The stored bits of a pixel by BPPMODE, or 3 where that is no TFT mode.
 pub fn stored_bits(mode: u32) -> Depth
     ensures { λ r. ⌜ depth r ≡ depthOf mode ⌝ }
 {
@@ -40,7 +40,7 @@ pub fn stored_bits(mode: u32) -> Depth
     }
 }
 
-// The stored bits of the words' mode, 0 where there is none.
+// The stored bits by the words' BPPMODE, 0 where that is no TFT mode.
 pub fn bits_of(w: Words) -> u32
     ensures { λ r. ⌜ r ≡ storedBits (bppmode w) ⌝ }
 {

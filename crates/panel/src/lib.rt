@@ -1,5 +1,4 @@
-// The panel that the nine words describe: its size, the frame's length and rate, and refusals 1 to 7
-// (document 01, "The nine words", "Clocks and lines", "Numbers of refusal").
+// The panel that the nine words describe: its size (§2), the frame's length and rate (§6.1 to §6.4), and refusals 1 to 7 and 9 (§9.1).
 pub mod frame;
 pub mod geometry;
 pub mod refusals;

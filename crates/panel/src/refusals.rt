@@ -1,4 +1,4 @@
-// Refusals 1 to 7, and 9: what the words alone decide. Each condition stands in a function of its own; `judge` is of 1 to 7.
+// Refusals 1 to 7 and 9, which the words alone decide (§9.1). Each condition has a function of its own; `judge` goes through 1 to 7.
 ghost use mathlib.Core.Path.{_≡_};
 ghost use Rattle.laws.specs.Answers.{judged};
 ghost use Rattle.laws.specs.Cases.{lower, andWhere};
@@ -61,7 +61,7 @@ fn past_bank(w: Words) -> bool
     0x20_0000 < row_offset(w, height(w) - 1) + w.pagewidth() as u64
 }
 
-// A further condition: the number so far, or where there is none and this holds, that number.
+// One more condition: the refusal so far, or where that is 0 the number if `holds`.
 pub fn and_where(refusal: u32, holds: bool, number: u32) -> u32
     ensures { λ r. ⌜ r ≡ andWhere refusal holds number ⌝ }
 {
@@ -74,7 +74,7 @@ pub fn and_where(refusal: u32, holds: bool, number: u32) -> u32
     0
 }
 
-// The lowest of the numbers 1 to 7 whose condition holds, 0 where none does.
+// The lowest of 1 to 7 whose condition holds, 0 where none does (§9.2).
 pub fn judge(w: Words) -> u32
     ensures { λ r. ⌜ r ≡ judge w ⌝ }
 {
@@ -87,7 +87,7 @@ pub fn judge(w: Words) -> u32
     and_where(to_6, past_bank(w), 7)
 }
 
-// Refusal 9.
+// Refusal 9 (§9.1): video is off.
 pub fn video_off(w: Words) -> bool
     ensures { λ r. ⌜ r ≡ videoOff w ⌝ }
 {
@@ -120,8 +120,8 @@ fn accept_words(w: Words) -> Loaded
     Loaded::Nine(w)
 }
 
-// The nine words that a slice begins with, or the number of the refusal: 10 for a slice short of nine words, then 1 to 7.
-// Whoever has these words has them judged.
+// The nine words that a slice begins with, or a refusal: 10 first where `words` has fewer than nine entries, then 1 to 7. Words from
+// here need not be judged again.
 pub fn accept(words: &[u32]) -> Loaded
     ensures { λ r. ⌜ loaded r ≡ accept (now (words .entry)) ⌝ }
 {

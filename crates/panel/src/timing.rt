@@ -1,4 +1,4 @@
-// Clocks and lines of a frame (document 01, "Clocks and lines").
+// Clocks and lines of a frame (§6.1 to §6.3), and its rate (§6.4).
 ghost use mathlib.Core.Path.{_≡_};
 ghost use Prim.Native.Nat.{_+_};
 ghost use Rattle.registers.specs.Fields.{vspw, vbpd, vfpd, hspw, hbpd, hfpd};
@@ -15,7 +15,7 @@ fn blank_clocks(w: Words) -> u32
     (w.hspw() + 1) + (w.hbpd() + 1) + (w.hfpd() + 1)
 }
 
-// Clocks in a line.
+// Clocks in a line (§6.1).
 pub fn line_clocks(w: Words) -> u32
     ensures { λ r. ⌜ r ≡ lineClocks (timing w) ⌝ }
 {
@@ -29,28 +29,28 @@ fn blank_lines(w: Words) -> u32
     (w.vspw() + 1) + (w.vbpd() + 1) + (w.vfpd() + 1)
 }
 
-// Lines in a frame.
+// Lines in a frame (§6.2).
 pub fn frame_lines(w: Words) -> u32
     ensures { λ r. ⌜ r ≡ frameLines (timing w) ⌝ }
 {
     blank_lines(w) + height(w)
 }
 
-// Clocks in a frame.
+// Clocks in a frame (§6.3).
 pub fn frame_clocks(w: Words) -> u32
     ensures { λ r. ⌜ r ≡ frameClocks (timing w) ⌝ }
 {
     frame_lines(w) * line_clocks(w)
 }
 
-// HCLK ticks in a frame.
+// HCLK ticks in a frame (§6.3).
 pub fn frame_ticks(w: Words) -> u64
     ensures { λ r. ⌜ r ≡ frameTicks w ⌝ }
 {
     2 * (w.clkval() as u64 + 1) * frame_clocks(w) as u64
 }
 
-// The frame rate in millihertz: one exact division, rounded down once.
+// The frame rate in millihertz (§6.4): one exact division, rounded down once.
 pub fn frame_millihertz(w: Words, hclk: u32) -> u64
     ensures { λ r. ⌜ r ≡ frameMillihertz w hclk ⌝ }
 {

@@ -1,4 +1,4 @@
--- Laws of numbers in lent slices: those that are put where there is room, and words that are put and loaded again.
+-- Laws of numbers in lent slices (§10.1): putting them where there is room, and loading words that were put.
 use mathlib.Core.List.{List}
 use mathlib.Core.Path.{_≡_, refl, sym}
 use Prim.Native.Nat.{ℕ, _<_, _≤_}

@@ -1,4 +1,4 @@
--- The layouts of the nine words leave no bit out and take none twice (document 01, "The nine words").
+-- The layouts of the nine words leave no bit out and take none twice (§1.2, §1.3).
 use mathlib.Core.Bool.{_&&_}
 use lib.Dec.{T}
 use Rattle.laws.specs.BitFields.{tiles}

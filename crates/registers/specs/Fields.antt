@@ -1,5 +1,5 @@
--- Each field of the nine words by name, and refusal 1 (document 01, "The nine words"). A word's bits are given in Layouts. Promises
--- cite it, so a reader must believe it.
+-- Each field of the nine words by name (§1.2), and refusal 1 (§1.3). Which bits a field has stands in Layouts. Promises cite it, so a
+-- reader must believe it.
 use mathlib.Core.Bool.{Bool}
 use mathlib.Core.List.{List, [], _∷_}
 use Prim.Native.Nat.{ℕ}
@@ -136,7 +136,7 @@ tpalen w = field TPALEN (w .tpal)
 abbrev pub tpalval : Words → ℕ
 tpalval w = field TPALVAL (w .tpal)
 
--- for each word, whether a reserved bit of it is set
+-- for each word, whether a reserved bit of it is set (§1.3)
 abbrev pub reservedWords : Words → List Bool
 reservedWords w =
     reservedSet LCDCON1 (w .lcdcon1)
@@ -150,6 +150,6 @@ reservedWords w =
     ∷ reservedSet TPAL (w .tpal)
     ∷ []
 
--- 1: a reserved bit is set
+-- 1 (§1.3): some word has a reserved bit set
 unfoldable pub reservedBit : Words → Bool
 reservedBit w = any (reservedWords w)

@@ -1,6 +1,5 @@
--- The nine words bit by bit (document 01, "The nine words"), in the paper's order and with its numbers: each field once, by its
--- highest and lowest bit, and each word as one list from bit 31 down. "All other bits are reserved." Promises cite it, so a reader
--- must believe it.
+-- The nine words bit by bit (§1.2), in the order of §1.1: each field once, by its highest and lowest bit, and each word as one list
+-- from bit 31 down. Bits of no field are reserved (§1.3). Promises cite it, so a reader must believe it.
 use mathlib.Core.List.{List, [], _∷_}
 use Rattle.laws.specs.BitFields.{Span, free, readOnly, reserved}
 
@@ -65,7 +64,8 @@ HSPW = free 7 0
 abbrev pub LCDCON4 : List Span
 LCDCON4 = reserved 31 16 ∷ MVAL ∷ HSPW ∷ []
 
--- LCDCON5: VSTATUS 16..15 and HSTATUS 14..13 (read-only), BPP24BL 12, FRM565 11, INVVCLK 10, INVVLINE 9, INVVFRAME 8, INVVD 7, INVVDEN 6, INVPWREN 5, INVLEND 4, PWREN 3, ENLEND 2, BSWP 1, HWSWP 0.
+-- LCDCON5: VSTATUS 16..15 and HSTATUS 14..13 (read-only), BPP24BL 12, FRM565 11, INVVCLK 10, INVVLINE 9, INVVFRAME 8, INVVD 7,
+-- INVVDEN 6, INVPWREN 5, INVLEND 4, PWREN 3, ENLEND 2, BSWP 1, HWSWP 0.
 abbrev pub VSTATUS : Span
 VSTATUS = readOnly 16 15
 

@@ -1,5 +1,5 @@
--- The nine words lent as a slice, and numbers put to one (document 01, "The nine words"); 10 for a slice that has too few entries
--- ("Numbers of refusal"). Promises cite it, so a reader must believe it.
+-- The nine words in a lent slice (§1.1, §10.1), and numbers put into one; 10 where a slice has too few entries (§9.1). Promises cite
+-- it, so a reader must believe it.
 use mathlib.Core.Bool.{Bool}
 use mathlib.Core.List.{List, [], _∷_}
 use Prim.Native.Nat.{ℕ}
@@ -12,12 +12,12 @@ use Rattle.registers.specs.declared.Loaded.{Loaded}
 use Rattle.registers.specs.declared.Loaded.the-variants.{Nine, Refused}
 use Rattle.registers.specs.declared.Words.{Words}
 
--- the paper's number and values of an answer
+-- the answer as a value or the number of a refusal
 abbrev pub loaded : Loaded → Answer Words
 loaded (Nine w) = accepted w
 loaded (Refused n) = refused n
 
--- "In this order: LCDCON1 to LCDCON5, LCDSADDR1 to LCDSADDR3, TPAL."
+-- the words in their order (§1.1)
 abbrev pub nineWords : List ℕ → Words
 nineWords s =
     record {
@@ -32,7 +32,7 @@ nineWords s =
       tpal = getD s 8 0;
     }
 
--- the entries of words, in the same order
+-- the same order the other way: words as entries
 abbrev pub wordEntries : Words → List ℕ
 wordEntries w =
     w .lcdcon1
@@ -46,22 +46,22 @@ wordEntries w =
     ∷ w .tpal
     ∷ []
 
--- 10: fewer entries are lent than the call needs
+-- 10 (§9.1): a slice has fewer entries than its call needs
 unfoldable pub tooShort : ℕ → ℕ → Bool
 tooShort lent needed = ltb lent needed
 
--- 10: the slice is short of nine words
+-- 10 (§9.2): fewer than nine entries for the words; it comes before every other number
 unfoldable pub shortOfNine : List ℕ → Bool
 shortOfNine s = tooShort (length s) 9
 
--- what the slice gives
+-- the words that a slice begins with, or 10; a tenth entry is ignored (§10.1)
 unfoldable pub load : List ℕ → Answer Words
 load s = judged (lowest (10 when shortOfNine s ∷ [])) (nineWords s)
 
--- a slice whose first entries are these numbers; the others stay
+-- the slice with these numbers as its first entries; the others stay (§10.1)
 abbrev pub begunWith : List ℕ → List ℕ → List ℕ
 begunWith numbers out = stores (λ i. getD numbers i 0) 0 (length numbers) out
 
--- numbers put to a slice; 10: it has fewer entries
+-- numbers put into a slice, or 10 where it has fewer entries than there are numbers (§10.1)
 unfoldable pub putEntries : List ℕ → List ℕ → Outcome
 putEntries numbers out = outcome (lowest (10 when tooShort (length out) (length numbers) ∷ [])) out (begunWith numbers out)

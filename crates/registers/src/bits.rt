@@ -1,4 +1,4 @@
-// The fields of the nine words, each cut from its word by shift and mask (document 01, "The nine words").
+// The fields of the nine words by bit (§1.2): `cut` shifts and masks.
 ghost use mathlib.Core.Path.{_≡_};
 ghost use Prim.Native.Nat.{suc, _-_, _/_, _%_, _^_, _≤_, _<_};
 ghost use Rattle.registers.specs.Fields.{linecnt, clkval, mmode, pnrmode, bppmode, envid};
@@ -265,7 +265,7 @@ impl Words {
 
     // ---- all nine
 
-    // 1: a reserved bit is set.
+    // Refusal 1 (§1.3): some word has a reserved bit set.
     pub fn reserved_bit(self) -> bool
         ensures { λ r. ⌜ r ≡ reservedBit self ⌝ }
     {

@@ -1,11 +1,11 @@
-// The nine words of the LCD controller (document 01, "The nine words").
+// The nine words of the LCD controller (§1), and numbers in lent slices (§10.1).
 ghost use mathlib.Core.Path.{_≡_};
 ghost use Rattle.laws.specs.Answers.{leaves};
 ghost use Rattle.registers.specs.Loading.{loaded, load, putEntries};
 
 mod bits;
 
-// The words in the paper's order.
+// The words in their order (§1.1).
 pub struct Words {
     pub lcdcon1: u32,
     pub lcdcon2: u32,
@@ -24,7 +24,7 @@ pub enum Loaded {
     Refused(u32),
 }
 
-// The nine words that a slice begins with, or 10 where it has fewer; a tenth word is ignored.
+// The nine words that a slice begins with, or 10 where it has fewer than nine entries; a tenth is ignored.
 pub fn load(words: &[u32]) -> Loaded
     ensures { λ r. ⌜ loaded r ≡ load (now (words .entry)) ⌝ }
 {
@@ -44,7 +44,7 @@ pub fn load(words: &[u32]) -> Loaded
     })
 }
 
-// The numbers to the first entries of a lent slice; the others stay. 10 where the slice has fewer entries, and then it stays as it was.
+// The numbers to the first entries of `out`; the others stay. 10 where `out` has fewer entries than `numbers`, and then all stay.
 pub fn put_entries(numbers: &[u32], out: &mut [u32]) -> u32
     ensures { λ r. ⌜ leaves r (now (out .exit)) ≡ putEntries (now (numbers .entry)) (now (out .entry)) ⌝ }
 {

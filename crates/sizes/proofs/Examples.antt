@@ -1,4 +1,4 @@
--- The sizes held against numbers from outside: those of T8's panel, and of one whose parts all differ.
+-- The sizes (§10.3) checked against independent numbers: those of T8's panel (§13.1), and of one whose parts all differ.
 use mathlib.Core.List.{[], _∷_}
 use mathlib.Core.Path.{_≡_, refl}
 use Rattle.panel.specs.Geometry.{storedBits, outsideModes}

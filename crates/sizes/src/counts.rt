@@ -1,4 +1,4 @@
-// A frame's clocks, HCLK ticks and rate, to a lent slice of three entries (document 01, "Clocks and lines").
+// A frame's clocks, HCLK ticks and rate (§6.3, §6.4) into a lent slice of three entries (§10.3).
 ghost use mathlib.Core.Path.{_≡_};
 ghost use Rattle.laws.specs.Answers.{leaves};
 ghost use Rattle.sizes.specs.Counts.{putCounts, readCounts};
@@ -24,8 +24,8 @@ fn put_counts(w: Words, hclk: u32, counts: &mut [u64]) -> u32
     0
 }
 
-// The frame's clocks, its HCLK ticks and its rate in millihertz, to the first three entries of `counts`; the others stay. 10 for
-// a slice short of nine words, then 1 to 7, then 10 where `counts` has fewer than three entries.
+// The frame's clocks, its HCLK ticks and its rate in millihertz, to the first three entries of `counts`; the others stay. 10 first where
+// `words` has fewer than nine entries, then 1 to 7, then 10 where `counts` has fewer than three.
 pub fn read_counts(words: &[u32], hclk: u32, counts: &mut [u64]) -> u32
     ensures { λ r. ⌜ leaves r (now (counts .exit)) ≡ readCounts (now (words .entry)) hclk (now (counts .entry)) ⌝ }
 {

@@ -1,6 +1,6 @@
-// The panel's sizes and a frame's counts as plain numbers in lent slices (document 01, "The nine words" and "Clocks and lines"). 0 is
-// done, any other answer the number of the refusal, and then nothing lent is changed. Here the 12 sizes: the picture and its clock, the
-// parts of a line in clocks, the parts of a frame in lines.
+// The panel's sizes and a frame's counts as plain numbers in lent slices (§10.3). 0 is done; any other answer is the number of a
+// refusal, and then no lent slice changes (§9.5). Here the 12 sizes: the picture and its clock, the parts of a line in clocks, the parts
+// of a frame in lines.
 ghost use mathlib.Core.Path.{_≡_};
 ghost use Rattle.laws.specs.Answers.{leaves};
 ghost use Rattle.sizes.specs.Sizes.{sizes, readSizesOf, readSizes};
@@ -44,8 +44,8 @@ fn read_sizes_of(w: Words, sizes: &mut [u32]) -> u32
     put_entries(&sizes_of(w), sizes)
 }
 
-// The 12 sizes to the first 12 entries of `sizes`; the others stay. 10 for a slice short of nine words, then 1, then 10 where `sizes`
-// has fewer than 12 entries.
+// The 12 sizes to the first 12 entries of `sizes`; the others stay. 10 first where `words` has fewer than nine entries, then 1, then 10
+// where `sizes` has fewer than 12.
 pub fn read_sizes(words: &[u32], sizes: &mut [u32]) -> u32
     ensures { λ r. ⌜ leaves r (now (sizes .exit)) ≡ readSizes (now (words .entry)) (now (sizes .entry)) ⌝ }
 {

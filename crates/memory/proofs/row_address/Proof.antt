@@ -7,7 +7,7 @@ use Rattle.memory.specs.Memory.{rowAddress}
 use Rattle.memory.proofs.row_address.Statement.{statement}
 use Rattle.memory.proofs.row_address.Tie as tie
 
--- no row of 32 bits comes near the end of 64
+-- no 32-bit row number brings the address near 2^64
 offset-le : (c : tie.After-row-offset) → c .row-offset .result ≤ 2 ^ 21 + 4294967295 * 4094
 offset-le c =
     rw (c .row-offset .ensures)

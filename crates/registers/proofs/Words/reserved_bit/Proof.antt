@@ -1,4 +1,4 @@
--- `Words::reserved_bit` meets its contract: the reserved spans, joined, hold a 1 where one of them does.
+-- `Words::reserved_bit` meets its contract: the or of the reserved spans has a bit set where one of them has.
 use borrow.Author.Needs.{needs}
 use Rattle.laws.specs.ShiftLaws.{some-bit, some-bit-or, some-bit-never}
 use Rattle.registers.specs.Fields.{reservedBit}
