@@ -1,5 +1,5 @@
-# Builds what is not proved itself: the archive of the C interface from the crates, and the C programs of host/ over it. Only what
-# changed is built again. `make` builds all; `.ci/run` runs all tests.
+# Builds the archive of the C interface from the crates, and the C programs of host/ over it. Only what changed is built again.
+# `make` builds all; `.ci/run` runs all tests.
 CC = gcc
 CFLAGS = -std=c11 -O2 -Wall -Wextra -Werror
 SANITIZE = -g -fsanitize=address,undefined -fno-sanitize-recover=all
@@ -14,7 +14,7 @@ programs = $(addprefix target/host/,lcdshot example benchmark differential diffe
 
 all: $(programs)
 
-# `rt` proves the crates first, those that it has not proved yet; its many lines are shown where it fails
+# `rt` first proves the crates that it has not proved yet; its many lines are shown only if it fails
 $(archive): $(lcd_sources)
 	@mkdir -p target
 	@command -v rt > /dev/null || { echo "the Rattle kit (rt) is missing; it proves and builds $@" >&2; exit 2; }
@@ -29,7 +29,7 @@ target/host/%.o: host/%.c
 # the plain loops of the benchmark are measured at -O3
 target/host/benchmark.o: CFLAGS = -std=c11 -O3 -Wall -Wextra -Werror
 
-# linked beside and renamed: whoever runs the tool meanwhile has the old one or the new one
+# linked under another name and renamed, so that a call at the same time runs the whole old tool or the whole new one
 target/host/lcdshot: $(shot) $(archive)
 	$(CC) -o $@.new $(shot) $(archive) -lpng
 	@mv $@.new $@
@@ -44,7 +44,7 @@ target/host/example target/host/benchmark: target/host/%: target/host/%.o $(arch
 target/host/differential: $(beside:host/%.c=target/host/%.o) $(archive)
 	$(CC) -o $@ $^
 
-# every slice in a block of exactly its size, for what watches memory
+# every slice in a block of exactly its size, for tools that watch memory accesses
 target/host/differential-exact: SANITIZE =
 target/host/differential-exact target/host/differential-sanitized: $(beside) $(beside_headers) $(archive)
 	@mkdir -p $(@D)
@@ -52,7 +52,7 @@ target/host/differential-exact target/host/differential-sanitized: $(beside) $(b
 
 -include $(wildcard target/host/*.d target/host/shot/*.d)
 
-# whether all C compiles without a warning, before anything is proved
+# checks that all C compiles without a warning, before anything is proved
 syntax:
 	$(CC) $(CFLAGS) -fsyntax-only $(wildcard host/*.c host/shot/*.c)
 

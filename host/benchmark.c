@@ -1,8 +1,8 @@
-/* Speed of picture and row drawing: the library against one plain C loop for each mode, in one run of one program; and of the
- * scan-out: runs and steps against a plain C scan, and single pixels.
- * Both draw the same frame buffer into their own buffers; the results are compared first. For each mode the two are timed
- * in turn, many rounds, and the fastest round of each counts: a time of this machine at its best, not a promise.
- * The C loops take the numbers ready made and check nothing; the library's calls judge words, memory, palette and picture. */
+/* Speed of picture and row drawing: the library beside a plain C loop for each mode, in one run of one program; and of the scanout:
+ * runs and steps beside a plain C scan, and single pixels.
+ * Both draw the same frame buffer into buffers of their own; the results are compared first. For each mode the two are timed in turn,
+ * many rounds, and the fastest round of each counts: this machine's best time, not a promise.
+ * The C loops get their numbers ready made and check nothing; the library's calls judge words, memory, palette and picture. */
 #define _POSIX_C_SOURCE 199309L
 #include <stdint.h>
 #include <stdio.h>
@@ -195,7 +195,7 @@ static void table(unsigned width, unsigned height) {
     printf("| average | | | %.2f | | %.2f |\n", sum[0] / n, sum[1] / n);
 }
 
-/* ---- the scan-out, with the porches of document 01's T8 */
+/* ---- the scanout, with the porches of T8 (docs/REFERENCE.md, §13.1) */
 
 enum { HSPW = 9, HBPD = 19, HFPD = 9, VSPW = 1, VBPD = 1, VFPD = 1, CLKVAL = 4, SLOW_ROUNDS = 40 };
 enum { CLOCKS_BEFORE = HSPW + 1 + HBPD + 1, CLOCKS_AFTER = HFPD + 1, LINES_BEFORE = VSPW + 1 + VBPD + 1, LINES_AFTER = VFPD + 1 };

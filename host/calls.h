@@ -1,15 +1,14 @@
-/* The calls of lcd.h, a row each. From these rows model.h declares a twin for each call, and differential.c holds the two against each
- * other.
+/* The calls of lcd.h, a row each. From these rows model.h declares a twin for each call, and differential.c compares the two.
  *
  *     CALL(name, times, numbers, arguments)
  *
  * name       of lcd_NAME in the archive and model_NAME in the model
- * times      how often a case makes the call, and its share of a list of calls, where it starts a scan or goes on with one
+ * times      how often a case makes the call; for a call that starts or continues a scan, also its share of a list of calls
  * numbers    those that it can give: UP_TO(n) is 0 to n, NUMBER(n) is n
  * arguments  in their order, each of a kind of inputs.h: READ is a slice that the call reads, WRITE one that it writes, VALUE a number
  *
- * A further call is a row here and its twin in model.c. Where it takes what no other call does, that is a further kind: a name in
- * inputs.h, and in inputs.c a row of `kinds` with the function that makes it. */
+ * A further call is a row here and its twin in model.c. If it takes an argument of a new kind, that is a name in inputs.h and a row of
+ * `kinds` in inputs.c with the function that makes it. */
 #ifndef CALLS_H
 #define CALLS_H
 

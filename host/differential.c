@@ -1,12 +1,12 @@
-/* Holds the archive of lcd.h against the model of model.h, which reads document 01 a second time: random and damaged inputs
- * (inputs.c) go through both, and the answers and every entry of every lent slice afterwards must be the same. Which calls there
- * are, and what each is given, is the table of calls.h.
+/* Compares the archive of lcd.h with the model of model.h, written from the rules alone (docs/REFERENCE.md): random and damaged inputs
+ * (inputs.c) go through both, and the answers and every entry of every lent slice afterwards must be the same. calls.h lists the
+ * calls and what each is given.
  *
  *     differential [CASES [SEED]]       so many cases
  *     differential --only CASE [SEED]   this one again
  *
- * It ends with a table of how often each call gave each number. It exits with 1 where archive and model differ, and where in
- * 1,000 cases or more a call never gave a number that it can give: then the inputs would miss what they are made for. */
+ * It ends with a table of how often each call gave each number. It exits with 1 if archive and model differ, and if in 1,000 cases or
+ * more a call never gave a number that it can give: then the inputs would miss what they are made for. */
 #include <inttypes.h>
 #include <signal.h>
 #include <stdio.h>
@@ -168,7 +168,7 @@ static void print_call(const struct call *call) {
     printf("case %" PRIu64 " of seed %" PRIu64 ": %s: ", now.number, now.seed, call->name);
 }
 
-/* One block of a slice against another that says what is due. */
+/* Compares a block of a slice with another that holds what is due. */
 static bool same_entries(const struct inputs *in, const struct call *call, enum kind kind, enum side side, const void *due) {
     const struct slice *slice = &in->slices[kind];
     ptrdiff_t i;

@@ -1,5 +1,5 @@
-/* A small C host: document 01's cases T1 and T8 to T10 through the calls of lcd.h. For each case one line says that the library gives
- * what the paper gives; where something differs, the line says what, and the program exits with 1. */
+/* A small C host: the worked cases T1 and T8 to T10 (docs/REFERENCE.md, §13.1) through the calls of lcd.h. It prints a line for each
+ * case that comes out right; where something differs it says what, and exits with 1. */
 #include <inttypes.h>
 #include <stdint.h>
 #include <stdio.h>
@@ -9,12 +9,12 @@
 
 enum { WIDTH = 240, HEIGHT = 320, PIXELS = WIDTH * HEIGHT, VIDEO = PIXELS / 2, START = 0x30000000 };
 
-/* What lies in the lent buffers before a call: no colour, since a colour has 24 bits. */
+/* What the lent buffers hold before a call. It is no colour, since a colour has 24 bits. */
 static const uint32_t UNTOUCHED = 0xdeadbeef;
 
 static const uint16_t palette[256];
 
-/* Goes on where two numbers agree; else says which do not, and ends the program. */
+/* Ends the program with a message if two numbers differ. */
 static void same(const char *what, uint64_t got, uint64_t due) {
     if (got == due)
         return;
@@ -38,7 +38,7 @@ static const uint32_t t1_words[9] = {0x7b, 0x4000, 0, 0, 0, 0x18000000, 4, 2, 0}
 static const uint32_t t1_video[2] = {0x00112233, 0x00aabbcc};
 static const char t1_output[] = "clocks 20 hclk 40 mhz 25000\n112233\naabbcc\n";
 
-/* The bench's text, from the counts and from each row drawn by itself. */
+/* The bench's text (§11.2), from the counts and from each row drawn by itself. */
 static void t1_rows(char *text, size_t size) {
     uint64_t counts[3];
     same("T1, counts", lcd_counts(t1_words, 9, 1000, counts, 3), 0);
@@ -84,10 +84,10 @@ static void t1(void) {
     }
     t1_picture();
     t1_pixels();
-    puts("T1: check, counts, rows, picture and pixels as in the paper");
+    puts("T1: check, counts, rows, picture and pixels as they should be");
 }
 
-/* ---- T1's panel clock by clock: 5 lines of 4 clocks; the pixel of row r appears at clock (1 + 1 + r) x 4 + 1 + 1 */
+/* ---- T1's panel clock by clock: 5 lines of 4 clocks; row r's pixel is at clock (1 + 1 + r) x 4 + 1 + 1 (§6.6) */
 
 enum { T1_FRAME = 20, T1_FIRST = 10, T1_SECOND = 14 };
 
@@ -106,7 +106,7 @@ static void t1_start(uint32_t *scan) {
     untouched("T1, entry past the state", scan + LCD_SCAN_ENTRIES, 1);
 }
 
-/* VDEN is active at two clocks, which show the two pixels; VSYNC through the first line, HSYNC at each line's first clock. */
+/* VDEN is active at the clocks of the two pixels, VSYNC in the first line, HSYNC at each line's first clock. */
 static void t1_steps(void) {
     uint32_t scan[LCD_SCAN_ENTRIES + 1], clock[LCD_CLOCK_ENTRIES + 1];
     t1_start(scan);
@@ -125,7 +125,7 @@ static void t1_steps(void) {
     puts("T1: a frame in 20 steps, with the two pixels at clocks 10 and 14");
 }
 
-/* A run: so many clocks taken, the next position, and the picture's two entries as they are then. */
+/* A run: the clocks taken, the next position, and the picture's two entries afterwards. */
 static void t1_run(uint32_t *scan, uint32_t *picture, uint64_t clocks, uint32_t taken, uint32_t position, uint32_t first,
                    uint32_t second) {
     uint32_t count[2] = {UNTOUCHED, UNTOUCHED};
@@ -152,7 +152,7 @@ static void t1_runs(void) {
     puts("T1: a frame in four runs and in one, each with the picture");
 }
 
-/* Calls that are refused, and leave the scan and what else they are lent as it is. */
+/* Refused calls: they leave the scan and all other lent slices as they were (§9.5). */
 static void t1_refused(uint32_t *scan, uint32_t *picture) {
     uint32_t kept[LCD_SCAN_ENTRIES + 1], clock[LCD_CLOCK_ENTRIES], taken = UNTOUCHED;
     prefill(clock, LCD_CLOCK_ENTRIES);
@@ -171,7 +171,7 @@ static void t1_refused(uint32_t *scan, uint32_t *picture) {
     untouched("T1, picture of a refused run", picture, 3);
 }
 
-/* A viewport one row later waits for the next frame. */
+/* A viewport one row down, in force from the next frame (§7.6). */
 static void t1_viewport(void) {
     uint32_t scan[LCD_SCAN_ENTRIES + 1], picture[3];
     t1_start(scan);
@@ -227,7 +227,7 @@ static void t8_sizes(void) {
     puts("T8: 280 clocks a line, 326 lines a frame");
 }
 
-/* All black but the last pixel, which is white: the last word is read, and its halves in the order that HWSWP, set here, gives. */
+/* All black but the last pixel, which is white: the last word is read, and HWSWP, set here, orders its halves. */
 static void t10_suffices(void) {
     video[VIDEO - 1] = 0xffff0000;
     prefill(picture, PIXELS + 1);

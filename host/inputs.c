@@ -7,12 +7,12 @@
 
 enum { LCDSADDR1 = 5, LCDSADDR2 = 6 };
 
-/* Damaged words may say more rows than are worth to lend. */
+/* Damaged words may need more memory, or a larger picture, than is worth lending. */
 enum { WORTH = 50000, NOT_LARGE = 5000 };
 
 /* ---- lengths */
 
-/* A length where so many entries are needed: mostly these, else one less, fewer, one more, or more. */
+/* A length where so many entries are needed: mostly exactly that, else one less, fewer, one more, or more. */
 static size_t some_length(size_t needed) {
     switch (below(16)) {
     case 0: return needed - (needed > 0);

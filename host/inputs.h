@@ -51,7 +51,7 @@ void end_case(struct inputs *in);
 void begin_call_of_list(struct inputs *in);
 void end_call_of_list(struct inputs *in);
 
-/* The scan that a list was started with is the one that it goes on with. */
+/* The list continues with the scan that it was started with. */
 void go_on_with_scan(struct inputs *in);
 
 #endif

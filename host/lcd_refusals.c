@@ -1,4 +1,4 @@
-/* The text of a refusal's number, from the table in lcd.h. Compiled, as C or C++, beside the program that wants it. */
+/* The text of a number of refusal, from the table in lcd.h. Compiled, as C or C++, with the program that uses it. */
 #include "lcd.h"
 
 #define TEXT_OF(number, text)                                                                                                      \

@@ -1,12 +1,12 @@
-/* The calls of lcd.h by document 01, in plain C: "Numbers of refusal" and the scan of "Clocks and lines", over the rules of rules.h.
- * Written from the paper alone, to be read and to hold the library against (host/differential.c): each condition of refusal is a
- * function of its own. Words in quotation marks are the paper's. */
+/* The calls of lcd.h in plain C: the refusals (docs/REFERENCE.md, §9) and the scan (§7), over the rules of rules.h. Written from the
+ * rules alone, not from the crates, to be read and to be compared with the library (host/differential.c): each condition of refusal
+ * is a function of its own. A `view` here is a viewport put into the nine words. */
 #include <string.h>
 #include "rules.h"
 
-/* ---- the state of a scan */
+/* ---- the state of a scan (§7.1) */
 
-/* "A state is the nine words in force, the window start, the waiting view (LCDSADDR1 and 2) and the position." */
+/* `waiting1` and `waiting2` are LCDSADDR1 and LCDSADDR2 of the pending viewport (the waiting view). */
 struct state {
     uint32_t words[MODEL_WORDS];
     uint32_t window_start;
@@ -29,7 +29,7 @@ static void write_state(const struct state *state, uint32_t *scan) {
     scan[LCD_POSITION] = state->position;
 }
 
-/* "One step gives one clock's levels and the next state." "The waiting view comes into force when clock 0 is stepped." */
+/* One clock (§7.3): the state moves on, and before clock 0 the pending viewport takes over (§7.6). */
 static struct clock take_clock(struct state *state, const struct memory *memory, const uint16_t *palette) {
     if (state->position == 0) {
         state->words[LCDSADDR1] = state->waiting1;
@@ -42,8 +42,7 @@ static struct clock take_clock(struct state *state, const struct memory *memory,
     return shown;
 }
 
-/* "A level is 1 when active, exchanged by INVVFRAME, INVVLINE and INVVDEN. The data word is the pixel's colour where VDEN is
- * active and 0 elsewhere; INVVD complements all 24 lines at every clock." */
+/* The four signals (§6.7): the INV bits invert the three levels, and INVVD inverts the 24 data lines, on blank clocks too. */
 static void write_levels(const uint32_t *words, const struct clock *shown, uint32_t *levels) {
     levels[LCD_VSYNC] = shown->vsync != (field(words, LCD_INVVFRAME) == 1);
     levels[LCD_HSYNC] = shown->hsync != (field(words, LCD_INVVLINE) == 1);
@@ -53,9 +52,9 @@ static void write_levels(const uint32_t *words, const struct clock *shown, uint3
         levels[LCD_VD] = 0xffffff - levels[LCD_VD];
 }
 
-/* ---- numbers of refusal: each "given exactly when" its condition holds */
+/* ---- the refusals (§9.1) */
 
-/* 1: "a reserved bit is set". "All other bits are reserved": what is left of the words without their fields. */
+/* 1 (§1.3): a bit is set outside the fields; what remains of the words when all fields are cleared. */
 static bool a_reserved_bit_is_set(const uint32_t *words) {
     uint32_t rest[MODEL_WORDS];
     memcpy(rest, words, sizeof rest);
@@ -67,44 +66,43 @@ static bool a_reserved_bit_is_set(const uint32_t *words) {
     return false;
 }
 
-/* 2: "PNRMODE is not 3" */
+/* 2 (§2.2): the panel is not TFT */
 static bool pnrmode_is_not_3(const uint32_t *words) {
     return field(words, LCD_PNRMODE) != 3;
 }
 
-/* 3: "BPPMODE is outside 8..13" */
+/* 3 (§2.2): BPPMODE is no mode */
 static bool bppmode_is_outside(const uint32_t *words) {
     return field(words, LCD_BPPMODE) < 8 || field(words, LCD_BPPMODE) > 13;
 }
 
-/* 4: "the swap bits aren't legal for the mode". "BSWP with 1, 2, 4, 8 bits only; HWSWP with 16 only; never both." */
+/* 4 (§4.4): BSWP above 8 bits, HWSWP at other than 16, or both */
 static bool swap_bits_are_not_legal(const uint32_t *words) {
     bool bswp = field(words, LCD_BSWP) == 1, hwswp = field(words, LCD_HWSWP) == 1;
     return (bswp && stored_bits(words) > 8) || (hwswp && stored_bits(words) != 16) || (bswp && hwswp);
 }
 
-/* 5: "16 x PAGEWIDTH differs from W x S, or LCDBASEU, PAGEWIDTH or OFFSIZE is odd" */
+/* 5 (§3.4): PAGEWIDTH does not hold W pixels exactly, or an odd number would put a row's ends inside a word */
 static bool rows_do_not_fit(const uint32_t *words) {
     return 16 * field(words, LCD_PAGEWIDTH) != width(words) * stored_bits(words) || field(words, LCD_LCDBASEU) % 2 == 1 ||
            field(words, LCD_PAGEWIDTH) % 2 == 1 || field(words, LCD_OFFSIZE) % 2 == 1;
 }
 
-/* 6: "LCDBASEL differs from LCDBASEU + (PAGEWIDTH+OFFSIZE) x H, modulo 2^21" */
+/* 6 (§3.5): LCDBASEL is not the picture's end */
 static bool lcdbasel_differs(const uint32_t *words) {
     uint64_t row_length = field(words, LCD_PAGEWIDTH) + field(words, LCD_OFFSIZE);
     uint64_t end = field(words, LCD_LCDBASEU) + row_length * height(words);
     return field(words, LCD_LCDBASEL) != end % ((uint64_t)1 << 21);
 }
 
-/* 7: "LCDBASEU + (H-1) x (PAGEWIDTH+OFFSIZE) + PAGEWIDTH exceeds 2^21" */
+/* 7 (§3.5): the last row ends past the bank's 2^21 half-words */
 static bool last_row_leaves_the_bank(const uint32_t *words) {
     uint64_t row_length = field(words, LCD_PAGEWIDTH) + field(words, LCD_OFFSIZE);
     uint64_t last_row = field(words, LCD_LCDBASEU) + (height(words) - 1) * row_length;
     return last_row + field(words, LCD_PAGEWIDTH) > (uint64_t)1 << 21;
 }
 
-/* 8: "window start isn't a multiple of 4, or a word of some row lies outside the lent memory".
- * "Each row is PAGEWIDTH half-words long." */
+/* 8 (§3.6): the window start is misaligned, or a row has a word that is not lent; the half-words of OFFSIZE belong to no row */
 static bool memory_does_not_suffice(const uint32_t *words, const struct memory *memory) {
     uint64_t rows = height(words), halves = field(words, LCD_PAGEWIDTH);
     if (memory->start % 4 != 0)
@@ -118,17 +116,17 @@ static bool memory_does_not_suffice(const uint32_t *words, const struct memory *
     return false;
 }
 
-/* 9: "ENVID is 0" */
+/* 9 (§9.3): video is off */
 static bool envid_is_0(const uint32_t *words) {
     return field(words, LCD_ENVID) == 0;
 }
 
-/* 13: "LCDBANK of the new view, or of a handed-in state's waiting view, differs from that in force" */
+/* 13 (§7.1, §7.5): the pending viewport or the new one has another bank than the one in force */
 static bool lcdbank_differs(const uint32_t *view, const uint32_t *in_force) {
     return field(view, LCD_LCDBANK) != field(in_force, LCD_LCDBANK);
 }
 
-/* 15: "a handed-in state's position isn't below its frame length" */
+/* 15 (§7.1): the position lies past the frame's last clock */
 static bool position_is_not_below(const struct state *state) {
     return state->position >= frame_clocks(state->words);
 }
@@ -147,7 +145,7 @@ static bool applies(uint32_t number, const uint32_t *words, const struct memory 
     }
 }
 
-/* "The lowest number that applies to the call is given": of 1 to `last`, over all views that the call covers. */
+/* The lowest number of 1 to `last` that applies (§9.2), over all viewports that the call judges (§9.4). */
 static uint32_t lowest(uint32_t last, const uint32_t *const *views, int count, const struct memory *memory) {
     for (uint32_t number = 1; number <= last; number++)
         for (int i = 0; i < count; i++)
@@ -156,19 +154,19 @@ static uint32_t lowest(uint32_t last, const uint32_t *const *views, int count, c
     return 0;
 }
 
-/* "each as if it stood in the nine words" */
+/* The nine words with another viewport put in (§9.4). */
 static void view_in(uint32_t *view, const uint32_t *words, uint32_t lcdsaddr1, uint32_t lcdsaddr2) {
     memcpy(view, words, MODEL_WORDS * sizeof *view);
     view[LCDSADDR1] = lcdsaddr1;
     view[LCDSADDR2] = lcdsaddr2;
 }
 
-/* "10 for a slice short of nine words" comes "before all"; then 1 to `last`. */
+/* 10 for fewer than nine words, which comes first (§9.3), then 1 to `last`. */
 static uint32_t lowest_of_slice(uint32_t last, const uint32_t *words, size_t words_len, const struct memory *memory) {
     return words_len < MODEL_WORDS ? 10 : lowest(last, &words, 1, memory);
 }
 
-/* ---- the calls on words */
+/* ---- the calls on words (§9.3 has each call's order of refusals) */
 
 uint32_t model_check(const uint32_t *words, size_t words_len, uint32_t window_start, const uint32_t *video, size_t video_len) {
     struct memory memory = {window_start, video, video_len};
@@ -202,7 +200,7 @@ uint32_t model_draw_pixel(const uint32_t *words, size_t words_len, uint32_t wind
     return 0;
 }
 
-/* "Drawing one row fills the first W entries of a lent row the same way; the others stay." */
+/* Writes W entries; further ones stay (§5.6). */
 uint32_t model_draw_row(const uint32_t *words, size_t words_len, uint32_t window_start, const uint32_t *video, size_t video_len,
                         const uint16_t *palette, size_t palette_len, uint32_t row, uint32_t *out, size_t out_len) {
     struct memory memory = {window_start, video, video_len};
@@ -218,7 +216,7 @@ uint32_t model_draw_row(const uint32_t *words, size_t words_len, uint32_t window
     return 0;
 }
 
-/* "A picture goes to lent 32-bit entries, one a pixel, row after row; entries past W x H stay." */
+/* Writes W x H entries in reading order; further ones stay (§5.6). */
 uint32_t model_draw_picture(const uint32_t *words, size_t words_len, uint32_t window_start, const uint32_t *video,
                             size_t video_len, const uint16_t *palette, size_t palette_len, uint32_t *picture,
                             size_t picture_len) {
@@ -234,15 +232,15 @@ uint32_t model_draw_picture(const uint32_t *words, size_t words_len, uint32_t wi
     return 0;
 }
 
-/* ---- fields and sizes */
+/* ---- fields and sizes (§10.2, §10.3) */
 
-/* "reading fields only 1"; then 10: "another lent slice too short for its call" */
+/* After 10 for short words these calls judge 1 alone, then 10 for the slice that they write. */
 static uint32_t refusal_of_reading(const uint32_t *words, size_t words_len, size_t len, size_t needed) {
     uint32_t number = lowest_of_slice(1, words, words_len, NULL);
     return number == 0 && len < needed ? 10 : number;
 }
 
-/* "Read-only bits are ignored on reading" */
+/* Read-only fields are not among those read (§1.4). */
 uint32_t model_read_fields(const uint32_t *words, size_t words_len, uint32_t *fields, size_t fields_len) {
     uint32_t number = refusal_of_reading(words, words_len, fields_len, LCD_FIELDS);
     if (number != 0)
@@ -252,7 +250,7 @@ uint32_t model_read_fields(const uint32_t *words, size_t words_len, uint32_t *fi
     return 0;
 }
 
-/* 12: "writer: a field is too wide" */
+/* 12 (§1.5): a number exceeds what its field's bits hold */
 static bool a_field_is_too_wide(const uint32_t *fields) {
     for (int name = 0; name < LCD_FIELDS; name++)
         if (fields[name] > model_limit(name))
@@ -260,7 +258,7 @@ static bool a_field_is_too_wide(const uint32_t *fields) {
     return false;
 }
 
-/* "The writer gives only 12"; read-only bits are "written as 0" */
+/* Judges widths alone; read-only bits become 0 (§1.5). */
 uint32_t model_write_fields(const uint32_t *fields, size_t fields_len, uint32_t *words, size_t words_len) {
     if (fields_len < LCD_FIELDS || words_len < MODEL_WORDS)
         return 10;
@@ -292,9 +290,9 @@ uint32_t model_read_sizes(const uint32_t *words, size_t words_len, uint32_t *siz
     return 0;
 }
 
-/* ---- the scan */
+/* ---- the scan (§7, §10.4) */
 
-/* "A start puts the given view in both places and position 0." */
+/* The words' own viewport is both in force and pending; the position is 0 (§7.2). */
 uint32_t model_start(const uint32_t *words, size_t words_len, uint32_t window_start, const uint32_t *video, size_t video_len,
                      uint32_t *scan, size_t scan_len) {
     struct memory memory = {window_start, video, video_len};
@@ -310,7 +308,7 @@ uint32_t model_start(const uint32_t *words, size_t words_len, uint32_t window_st
     return 0;
 }
 
-/* "A check in step, run or view change covers the view in force, the waiting view and the new one": 1 to 9 of the first two. */
+/* 1 to 9 over the viewport in force and the pending one (§9.4). */
 static uint32_t lowest_of_state(const struct state *state, const struct memory *memory) {
     uint32_t waiting[MODEL_WORDS];
     const uint32_t *views[2] = {state->words, waiting};
@@ -318,7 +316,7 @@ static uint32_t lowest_of_state(const struct state *state, const struct memory *
     return lowest(9, views, 2, memory);
 }
 
-/* 13 and 15 of a state */
+/* 13 and 15 of a state; a step or run judges 10 before them (§9.3). */
 static uint32_t last_refusals_of_state(const struct state *state) {
     uint32_t waiting[MODEL_WORDS];
     view_in(waiting, state->words, state->waiting1, state->waiting2);
@@ -347,9 +345,8 @@ uint32_t model_step(uint32_t *scan, size_t scan_len, const uint32_t *video, size
     return 0;
 }
 
-/* "A run takes up to a stated number of clocks, stops at the frame's end, and reports how many it took: the smaller of the number
- * and the clocks left. It writes the colours of its active clocks to their places in the lent picture, and nothing else. It
- * leaves the state that the same number of single steps leaves." */
+/* A run (§7.4) is that many steps, to the end of the frame at most. Each pixel scanned goes to its entry of the picture; blank clocks
+ * write nothing. */
 static uint64_t take_clocks(struct state *state, const struct memory *memory, const uint16_t *palette, uint64_t clocks,
                             uint32_t *picture) {
     uint64_t left = frame_clocks(state->words) - state->position;
@@ -381,7 +378,7 @@ uint32_t model_run(uint32_t *scan, size_t scan_len, const uint32_t *video, size_
     return 0;
 }
 
-/* "A view change brings new LCDSADDR1 and 2 and becomes the waiting view if accepted." */
+/* Judges three viewports: the one in force, the pending one and the new one, which becomes the pending one (§7.5). */
 uint32_t model_change_viewport(uint32_t *scan, size_t scan_len, const uint32_t *video, size_t video_len, uint32_t lcdsaddr1,
                                uint32_t lcdsaddr2) {
     if (scan_len < LCD_SCAN_ENTRIES)

@@ -1,7 +1,8 @@
-/* A second reading of document 01, in plain C: for each call of lcd.h a twin with the same parameters, answers and lent slices.
- * It is written from the paper alone and shares no code with the library, so that host/differential.c can hold the two against
- * each other. It is there to be read, not to be fast: "The nine words" to "Clocks and lines" are rules.c, "Numbers of refusal" and
- * the calls are model.c. */
+/* A second model of the controller, in plain C: for each call of lcd.h a twin with the same parameters, answers and lent slices.
+ * It is written from the rules alone (docs/REFERENCE.md), not from the crates, and shares no code with the library, so that
+ * host/differential.c can compare the two. It is there to be read, not to be fast: rules.c has the words, memory, colours and
+ * clocks (§1 to §6), model.c the refusals (§9), the scan (§7) and the calls. In this model's comments a section such as §4.2 is one
+ * of docs/REFERENCE.md. */
 #ifndef MODEL_H
 #define MODEL_H
 
@@ -22,7 +23,7 @@ struct model_field {
 
 extern const struct model_field model_fields[MODEL_FIELDS];
 
-/* The greatest number that fits a field of n bits: 2^n - 1. */
+/* The greatest number that fits a field: 2^n - 1 for n bits. */
 uint64_t model_limit(int name);
 
 /* The twins: lcd_check's is model_check, and so on. */

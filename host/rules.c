@@ -1,9 +1,9 @@
-/* What the words, the memory and the palette show, by document 01's sentences: see rules.h. */
+/* What the words, the memory and the palette show, rule by rule: see rules.h. */
 #include "rules.h"
 
-/* ---- the nine words */
+/* ---- the nine words (§1, §2) */
 
-/* "Fields by bit" */
+/* Each field's word, highest and lowest bit (§1.2). */
 const struct model_field model_fields[MODEL_FIELDS] = {
     [MODEL_LINECNT] = {LCDCON1, 27, 18}, [LCD_CLKVAL] = {LCDCON1, 17, 8}, [LCD_MMODE] = {LCDCON1, 7, 7},
     [LCD_PNRMODE] = {LCDCON1, 6, 5}, [LCD_BPPMODE] = {LCDCON1, 4, 1}, [LCD_ENVID] = {LCDCON1, 0, 0},
@@ -27,17 +27,17 @@ uint64_t model_limit(int name) {
     return ((uint64_t)1 << bits) - 1;
 }
 
-/* "Width W = HOZVAL + 1" */
+/* W (§2.1). */
 uint64_t width(const uint32_t *words) {
     return field(words, LCD_HOZVAL) + 1;
 }
 
-/* "height H = LINEVAL + 1" */
+/* H (§2.1). */
 uint64_t height(const uint32_t *words) {
     return field(words, LCD_LINEVAL) + 1;
 }
 
-/* "BPPMODE 8 to 13 select 1, 2, 4, 8, 16, 24 bits a pixel"; "Stored bits S a pixel: 1, 2, 4, 8, 16, 32." */
+/* S (§2.2): 24-bit pixels take a whole word. */
 uint64_t stored_bits(const uint32_t *words) {
     switch (field(words, LCD_BPPMODE)) {
     case 8: return 1;
@@ -50,7 +50,7 @@ uint64_t stored_bits(const uint32_t *words) {
     }
 }
 
-/* ---- where a pixel lies */
+/* ---- where a pixel lies (§3, §4) */
 
 bool is_lent_word(const struct memory *memory, uint64_t address) {
     return address >= memory->start && address + 4 <= memory->start + 4 * memory->len;
@@ -60,13 +60,13 @@ static uint32_t word_at(const struct memory *memory, uint64_t address) {
     return memory->words[(address - memory->start) / 4];
 }
 
-/* "Row r starts at byte (LCDBANK x 2^22) + 2 x (LCDBASEU + r x (PAGEWIDTH + OFFSIZE))." */
+/* The bank's first byte, and twice the row's half-words: LCDBASEU and a pitch of PAGEWIDTH + OFFSIZE for each row above (§3.2). */
 uint64_t row_start(const uint32_t *words, uint64_t row) {
     uint64_t row_length = field(words, LCD_PAGEWIDTH) + field(words, LCD_OFFSIZE);
     return (field(words, LCD_LCDBANK) << 22) + 2 * (field(words, LCD_LCDBASEU) + row * row_length);
 }
 
-/* BSWP turns the bytes of a word round, HWSWP its two halves. */
+/* BSWP reverses a word's bytes (§4.2), HWSWP exchanges its halves (§4.3). */
 static uint32_t swapped(const uint32_t *words, uint32_t word) {
     uint32_t byte0 = word & 0xff, byte1 = word >> 8 & 0xff, byte2 = word >> 16 & 0xff, byte3 = word >> 24;
     if (field(words, LCD_BSWP) == 1)
@@ -80,7 +80,7 @@ static uint32_t bit_of(uint32_t number, uint64_t bit) {
     return number >> bit & 1;
 }
 
-/* Pixels of a word go from its highest bits down. */
+/* Pixels of a word go from its highest bits down (§4.1). */
 static uint32_t stored_pixel(const uint32_t *words, const struct memory *memory, uint64_t row, uint64_t column) {
     uint64_t stored = stored_bits(words);
     uint64_t first = column * stored;
@@ -91,9 +91,9 @@ static uint32_t stored_pixel(const uint32_t *words, const struct memory *memory,
     return pixel;
 }
 
-/* ---- colours */
+/* ---- colours (§5) */
 
-/* Bits high..low of a number to VDline and the lines below it. */
+/* Bits high..low of a number go to line VD`line` and the lines below it. */
 static uint32_t to_lines(uint32_t number, int high, int low, int line) {
     uint32_t lines = 0;
     for (int bit = high; bit >= low; bit--)
@@ -101,9 +101,7 @@ static uint32_t to_lines(uint32_t number, int high, int low, int line) {
     return lines;
 }
 
-/* "FRM565 = 1: bits 15..11 to VD23..19, 10..5 to VD15..10, 4..0 to VD7..3."
- * "FRM565 = 0: bits 15..11 to VD23..19, 10..6 to VD15..11, 5..1 to VD7..3, and bit 0 to VD18, VD10 and VD2."
- * "Unused lines are 0". */
+/* 5:6:5 under FRM565 (§5.2), else 5:5:5:1, whose bit 0 goes to all three parts (§5.3). Lines that get no bit are 0. */
 static uint32_t colour_of_16_bits(const uint32_t *words, uint32_t number) {
     if (field(words, LCD_FRM565) == 1)
         return to_lines(number, 15, 11, 23) | to_lines(number, 10, 5, 15) | to_lines(number, 4, 0, 7);
@@ -111,12 +109,12 @@ static uint32_t colour_of_16_bits(const uint32_t *words, uint32_t number) {
     return to_lines(number, 15, 11, 23) | to_lines(number, 10, 6, 15) | to_lines(number, 5, 1, 7) | intensity;
 }
 
-/* "At 24 bits, BPP24BL = 0 takes bits 23..0 and 1 takes bits 31..8." */
+/* The word's low 24 bits, or its high ones under BPP24BL (§4.5). */
 static uint32_t colour_of_24_bits(const uint32_t *words, uint32_t pixel) {
     return field(words, LCD_BPP24BL) == 1 ? to_lines(pixel, 31, 8, 23) : to_lines(pixel, 23, 0, 23);
 }
 
-/* TPALVAL under TPALEN; else by the palette up to 8 bits, and by the stored bits themselves above. */
+/* TPALVAL under TPALEN (§5.4); else up to 8 bits by the palette (§5.1), above by the stored bits themselves (§5.5). */
 uint32_t colour(const uint32_t *words, const struct memory *memory, const uint16_t *palette, uint64_t row,
                 uint64_t column) {
     if (field(words, LCD_TPALEN) == 1)
@@ -129,35 +127,35 @@ uint32_t colour(const uint32_t *words, const struct memory *memory, const uint16
     return colour_of_16_bits(words, palette[pixel]);
 }
 
-/* ---- clocks and lines */
+/* ---- line and frame (§6) */
 
-/* "Line length C = (HSPW+1) + (HBPD+1) + W + (HFPD+1) clocks." */
+/* C (§6.1): sync, back porch, active and front porch clocks. */
 uint64_t line_length(const uint32_t *words) {
     return (field(words, LCD_HSPW) + 1) + (field(words, LCD_HBPD) + 1) + width(words) + (field(words, LCD_HFPD) + 1);
 }
 
-/* "Frame height L = (VSPW+1) + (VBPD+1) + H + (VFPD+1) lines." */
+/* L (§6.2): the same parts in lines. */
 uint64_t frame_height(const uint32_t *words) {
     return (field(words, LCD_VSPW) + 1) + (field(words, LCD_VBPD) + 1) + height(words) + (field(words, LCD_VFPD) + 1);
 }
 
-/* "A frame is L x C clocks" */
+/* L x C (§6.3). */
 uint64_t frame_clocks(const uint32_t *words) {
     return frame_height(words) * line_length(words);
 }
 
-/* "and 2 x (CLKVAL+1) x L x C HCLK ticks" */
+/* 2 x (CLKVAL+1) ticks for each clock (§6.3). */
 uint64_t frame_ticks(const uint32_t *words) {
     return 2 * (field(words, LCD_CLKVAL) + 1) * frame_height(words) * line_length(words);
 }
 
-/* "Rate in millihertz: HCLK in Hz (any 32-bit number, 0 too) x 1000 over the ticks, rounded down." */
+/* One division, rounded down once (§6.4). The product is exact: below 2^42. */
 uint64_t rate(const uint32_t *words, uint64_t hclk) {
     return hclk * 1000 / frame_ticks(words);
 }
 
-/* A line is sync, back porch, active and front porch clocks, a frame the same parts in lines: VSYNC marks the sync lines, HSYNC the sync
- * clocks, VDEN the active clocks of active lines. */
+/* Sync is first in a line and in a frame, then back porch, active part and front porch (§6.5). VSYNC marks the sync lines, HSYNC the
+ * sync clocks, VDEN the active clocks of active lines (§6.7). */
 struct clock clock_at(const uint32_t *words, uint64_t position) {
     uint64_t line = position / line_length(words), clock = position % line_length(words);
     uint64_t sync_lines = field(words, LCD_VSPW) + 1, sync_clocks = field(words, LCD_HSPW) + 1;

@@ -1,22 +1,22 @@
 #!/usr/bin/env python3
 """Writes the vectors of crates/conformance: data/ (a file for each group), args and stdout. It takes no arguments.
 
-What is due is worked out here by itself, from document 01's sentences, and nowhere from the library: words are strings of 32
-characters '0' and '1', a field is a piece of such a string, a row is the string of all its stored bits, a pixel the next S
-characters of it, a colour 24 characters VD23..VD0. Refusal 8 asks of every word of every row whether it lies in the lent memory.
-A frame is the list of all its clocks, put together part by part; clocks are numbered through the list of calls, and the view of a
-frame is found in the schedule of the accepted ones.
-The answers of the group `hand` also stand below as literals, as the paper gives them or as worked out by hand; where the two
-differ, the script stops.
+What is due is worked out here from the rules (docs/REFERENCE.md), and never by the library: words are strings of 32 characters '0' and
+'1', a field is a piece of such a string, a row is the string of all its stored bits, a pixel the next S characters of it, a colour 24
+characters VD23..VD0. Refusal 8 asks of every word of every row whether it lies in the lent memory. A frame is the list of all its
+clocks, put together part by part; clocks are numbered through the list of calls, and a frame's viewport (`view` below) is found in the
+schedule of the accepted ones.
+The answers of the group `hand` also stand below as literals: the worked cases (§13.1), and others worked out by hand. Where they
+differ from what the script works out, it stops.
 
-The vectors are frozen. What C can call is tested by host/differential from now on; here a group grows only for what C cannot reach
-(the reader, the step in place), and an answer changes only where a request changes it.
+The vectors are frozen. What C can call is tested by host/differential; here a group grows only for what C cannot reach (the reader,
+the step in place), and an answer changes only where a rule changes.
 """
 import os
 import re
 from itertools import product
 
-# ---- the nine words, bit by bit ("The nine words"): name, first and last bit; a name with '-' in front is read-only
+# ---- the nine words, bit by bit (§1.2): name, first and last bit; a name with '-' in front is read-only
 
 NAMES = ("LCDCON1", "LCDCON2", "LCDCON3", "LCDCON4", "LCDCON5", "LCDSADDR1", "LCDSADDR2", "LCDSADDR3", "TPAL")
 LAYOUT = {
@@ -61,7 +61,7 @@ def reserved_bit(words):
     return False
 
 
-# ---- what a call is lent, and what it judges ("Numbers of refusal")
+# ---- what a call is lent, and what it judges (§9)
 
 STORED = {8: 1, 9: 2, 10: 4, 11: 8, 12: 16, 13: 32}  # stored bits by BPPMODE
 
@@ -101,7 +101,7 @@ def size(lent):
 
 
 def asked(lent, call, args):
-    """What a call needs of its lent entries and what these are, then the row and the column asked for."""
+    """How many lent entries a call needs, how many it has, then the row and the column asked for."""
     if call == "pixel":
         return 0, 0, args[0], args[1]
     if call == "row":
@@ -112,7 +112,7 @@ def asked(lent, call, args):
 
 
 def applying(lent, call, *args):
-    """All numbers that apply to a call on nine words, ascending. A mode number that selects nothing counts as 0 stored bits."""
+    """All numbers that apply to a call on nine words, ascending. A BPPMODE that is no mode counts as 0 stored bits."""
     f = fields(lent.words)
     w, h, pitch = f["HOZVAL"] + 1, f["LINEVAL"] + 1, f["PAGEWIDTH"] + f["OFFSIZE"]
     needed, has, row, column = asked(lent, call, args)
@@ -134,11 +134,11 @@ def applying(lent, call, *args):
 
 
 def refusal(lent, call, *args):
-    """The number that a call gives, 0 for none: 10 for fewer than nine words before all, then the lowest."""
+    """The number that a call gives, 0 for none: 10 first for fewer than nine words, then the lowest."""
     return 10 if len(lent.words) < 9 else min(applying(lent, call, *args), default=0)
 
 
-# ---- colours ("Where a pixel lies", "Colours")
+# ---- colours (§4, §5)
 
 def in_order(word, f):
     s = bits(word)
@@ -202,7 +202,7 @@ def worked_out(lent, call, *args):
     return [n] if n else [0, *VALUES[call](lent, *args)]
 
 
-# ---- the scan ("Clocks and lines")
+# ---- the scan (§6 to §8)
 
 def parts(sync, back, active, front):
     """The lines of a frame, or the clocks of a line, each by its part; the fields say one less than there are."""
@@ -236,7 +236,7 @@ def with_view(words, view):
 
 class Scan:
     """A list of calls from one state on. Its clocks are numbered from the state's position on, through all frames; the schedule
-    has each view that was accepted with the number of the clock that came next."""
+    has each viewport that was accepted with the number of the clock that came next. `waiting` is the pending viewport."""
 
     def __init__(self, words, start, waiting, position):
         self.words, self.start, self.first, self.clock = list(words), start, position, position
@@ -246,13 +246,13 @@ class Scan:
             raise SystemExit(f"{words}: a list of {len(self.frame)} clocks")
 
     def view_of(self, frame):
-        """Of the frame inside which the list begins, the view in force; else the last accepted before its clock 0 was taken."""
+        """For the frame in which the list begins, the viewport in force; else the last one accepted before the frame's clock 0."""
         if frame == 0 and self.first > 0:
             return tuple(self.words[5:7])
         return [view for clock, view in self.schedule if clock <= frame * len(self.frame)][-1]
 
     def in_force(self):
-        """The nine words, with the view of the frame of the last clock."""
+        """The nine words, with the viewport of the last clock's frame."""
         if self.clock == self.first:
             return self.words
         return with_view(self.words, self.view_of((self.clock - 1) // len(self.frame)))
@@ -268,11 +268,11 @@ class Scan:
         return [*self.in_force(), self.start, *self.waiting(), self.position()]
 
     def lend(self, lent, view):
-        """What a call is lent, with the state's words and a view."""
+        """What a call is lent, with the state's words and a viewport."""
         return Lent(with_view(self.words, view), start=self.start, video=lent.video, palette=lent.palette)
 
     def applying(self, lent, call, *args):
-        """All numbers that apply to a step, a run (by the entries lent) or a view change (by the new view)."""
+        """All numbers that apply to a step, a run (by the entries lent) or a viewport change (by the new viewport)."""
         current = tuple(self.in_force()[5:7])
         views = {current, self.waiting(), args} if call == "view" else {current, self.waiting()}
         bank = lambda view: fields(with_view(self.words, view))["LCDBANK"]
@@ -366,9 +366,9 @@ HEADER = """# Vectors of the conformance program. Made by host/vectors.py, which
 #   picture LENT =            the same
 #   stretch LENT FIRST COUNT = the entries from FIRST on, as far as panel and picture have them; it is never refused
 # Entries that are not listed are due as they were before the call, so all of them where it is refused.
-# A scan is kept from line to line: each call gets the state that the one before returned, after a refusal the old one, and each
-# run the picture as the one before left it. Settings:
-#   state ..                  a state from outside: nine words, window start, waiting LCDSADDR1 and 2, position
+# State and picture of a scan are kept from line to line: each call gets them as the last call left them, and a refused call leaves
+# both as they were. Settings:
+#   state ..                  a state from outside: nine words, window start, pending LCDSADDR1 and LCDSADDR2, position
 #   canvas N VALUE            a new picture of N entries, each VALUE
 # Calls, with the refusal or 0 due as above; the state brings its own words and window start:
 #   begin =                   a start with the words, window start and video words lent
@@ -434,7 +434,7 @@ class Group:
         self.write(about, lent, "begin", (), [n], due)
 
     def state(self, about, words, waiting=None, position=0, start=0x30000000):
-        """Hands a state in; the view in force waits too unless another is given."""
+        """Hands a state in; the viewport in force is also the pending one unless another is given."""
         self.scan = Scan(words, start, words[5:7] if waiting is None else waiting, position)
         if about:
             self.text.append(f"# {about}\n")
@@ -551,7 +551,7 @@ def screens():
 
 
 def bad_words():
-    """Words that each of 1 to 7 refuses, with a panel 4 by 2 of 8 bits that is else good."""
+    """Words that each of 1 to 7 refuses, with an otherwise good panel, 4 by 2 at 8 bits."""
     good = dict(depth=8, width=4, height=2)
     return {
         1: [a if i else a | 1 << 31 for i, a in enumerate(panel(**good))],
@@ -755,7 +755,7 @@ def count_cases():
     most = panel(8, 2048, 1024, HSPW=255, HBPD=127, HFPD=255, VSPW=63, VBPD=255, VFPD=255, CLKVAL=1023)
     t8 = dict(HSPW=9, HBPD=19, HFPD=9, VSPW=1, VBPD=1, VFPD=1)
     for about, words, hclks in (
-            ("the panel of source 004", panel(16, 240, 320, CLKVAL=4, **t8), (0, 1, 100000000, 912800, 912799, 0xFFFFFFFF)),
+            ("the panel of T8", panel(16, 240, 320, CLKVAL=4, **t8), (0, 1, 100000000, 912800, 912799, 0xFFFFFFFF)),
             ("the smallest frame", panel(**least), (0, 1, 31, 32, 33, 1000, 0xFFFFFFFF)),
             ("the smallest frame, CLKVAL 1023", panel(**least, CLKVAL=1023), (60000000, 0xFFFFFFFF)),
             ("the longest frame", most, (0, 1, 8808038, 8808039, 100000000, 0xFFFFFFFF)),
@@ -815,7 +815,7 @@ def signal_cases():
 
 
 def any_mix(g, depth, width, height, around):
-    """Steps, runs and view changes by no pattern, each frame with one of four memories."""
+    """Steps, runs and viewport changes by no pattern, each frame with one of four memories."""
     shape = dict(depth=depth, width=width, height=height, OFFSIZE=2, FRM565=1, **porches(*around))
     memory = [Lent(panel(**shape), video=noise(16, depth + seed)) for seed in range(4)]
     g.canvas(width * height + 1, depth)
@@ -996,7 +996,7 @@ def good_view(baseu, **other):
 
 
 def all_three(g, about, lent, new=good_view(2)):
-    """Step, run and view change; then the state and the picture, which those that are refused must leave."""
+    """Step, run and viewport change; then the state and the picture, which a refused call must leave as they were."""
     g.step(about, lent)
     g.run(None, lent, 3)
     g.view(None, lent, *new)
@@ -1037,7 +1037,7 @@ def refused_states(g):
 
 
 def several_views(g):
-    """The view in force, the waiting one and the new one, each good or refused by one of five numbers: all triples."""
+    """The viewport in force, the pending one and the new one, each good or refused by one of five numbers: all triples."""
     lent = Lent(panel(**GOOD), video=noise(6))
     views = {0: good_view(4), 1: (good_view(4)[0] | 1 << 31, good_view(4)[1]), 5: good_view(3), 6: good_view(4, LCDBASEL=4),
              7: good_view(2**21 - 2), 8: good_view(2**20)}
@@ -1054,7 +1054,7 @@ def several_views(g):
 
 
 def late_numbers(g):
-    """9, 10, 13, 15, each there or not; 13 by a waiting view in the next bank, which the lent memory reaches."""
+    """9, 10, 13, 15, each there or not; 13 by a pending viewport in the next bank, which the lent memory reaches."""
     edge, start, next_bank = panel(**GOOD, LCDBASEU=2**21 - 4), 0x30400000 - 8, good_view(0, LCDBANK=0xC1)
     for off, short, bank, past in product((0, 1), repeat=4):
         numbers = [n for n, holds in ((9, off), (10, short), (13, bank), (15, past)) if holds]
@@ -1208,7 +1208,7 @@ def hand_scan(g):
 def hand():
     """Words and answers as literals. The palette's entry i is the number i where nothing else is said, so that 5:6:5 shows the
     index i, below 32, as the colour i x 8, and larger ones as their high bits x 0x400 more."""
-    g = Group("hand", "T1 to T11 of document 01 and further cases, words and answers written by hand")
+    g = Group("hand", "T1 to T11 of docs/REFERENCE.md and further cases, words and answers written by hand")
     index = list(range(256))
     t1 = [0x7B, 0x4000, 0, 0, 0, 0x18000000, 4, 2, 0]
     two = [0x00112233, 0x00AABBCC]

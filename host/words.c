@@ -1,10 +1,10 @@
-/* Words for the comparison of host/differential.c: see words.h. They lie on both sides of each condition of "Numbers of refusal" and
- * at the edges of "Where a pixel lies" and "Clocks and lines" (document 01). */
+/* Words for the comparison of host/differential.c: see words.h. They lie on both sides of each condition of refusal (docs/REFERENCE.md,
+ * §9.1) and at the edges of rows (§3), lines and frames (§6). */
 #include "chance.h"
 #include "model.h"
 #include "words.h"
 
-/* One case in so many is of a large panel, which takes its time. */
+/* One case in so many has a large panel, which takes longer. */
 enum { LARGE_IN = 320 };
 
 /* ---- fields */
@@ -115,7 +115,7 @@ void set_reserved_bit(uint32_t *words) {
     words[word] |= 1u << bit;
 }
 
-/* A row of an odd number of half-words, with the width that goes with it, as far as the mode has one. */
+/* A row of an odd number of half-words, with the width that fits it, where the mode has one. */
 static void make_page_odd(uint32_t *words) {
     put(words, LCD_PAGEWIDTH, get(words, LCD_PAGEWIDTH) - 1);
     put(words, LCD_HOZVAL, 16 * get(words, LCD_PAGEWIDTH) / stored_bits(words) - 1);

@@ -74,7 +74,8 @@ static void try_flag(struct comparison *c, const struct readings *r, const struc
     try_neighbour(c, r->dump, words, golden, n);
 }
 
-/* The view a row up or down: LCDBASEU and, as the library refuses it otherwise, LCDBASEL by as much. There is none outside the bank. */
+/* The viewport a row up or down: LCDBASEU and, since the library refuses it otherwise (6), LCDBASEL by as much. There is none outside
+ * the bank. */
 static void try_row(struct comparison *c, const struct readings *r, const struct picture *golden, bool up, struct neighbour *n) {
     uint32_t words[LCD_REGISTERS], pitch = r->fields[LCD_PAGEWIDTH] + r->fields[LCD_OFFSIZE], by = up ? -pitch : pitch;
     uint32_t base = r->fields[LCD_LCDBASEU] + by, end = (r->fields[LCD_LCDBASEL] + by) & layout_asked()->most[LCD_LCDBASEL];

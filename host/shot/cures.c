@@ -90,7 +90,7 @@ static struct cure look_outward(const struct judging *j, uint32_t refusal, int f
     return best;
 }
 
-/* The best number of a field; where 5 is about a view and it goes further so, with LCDBASEL moved along. */
+/* The best number of a field; where 5 is about the viewport and this goes further, with LCDBASEL moved along. */
 static struct cure best_of(const struct judging *j, uint32_t refusal, int field) {
     struct cure alone = look_outward(j, refusal, field, false), along;
     if (refusal != 5 || alone.then != 6 || (field != LCD_LCDBASEU && field != LCD_PAGEWIDTH && field != LCD_OFFSIZE))
@@ -241,7 +241,7 @@ static struct cure quiet_row(const struct judging *j, bool *has_moved) {
     return best;
 }
 
-/* The nearest view inside the bank. */
+/* The nearest viewport inside the bank. */
 static struct cure quiet_view(const struct cures *c, const struct judging *j) {
     struct cure best = {.then = 7};
     for (uint32_t base = j->now.fields[LCD_LCDBASEU]; base > 0 && !best.count; base--)

@@ -1,5 +1,5 @@
-/* Dumps as bytes (document 01, "The bench"): nine words, HCLK and window start, 4 bytes each, low byte first; 256 palette entries of 2
- * bytes; then the video words. */
+/* Dumps as bytes, low byte first: nine words, HCLK and window start, 4 bytes each; 256 palette entries of 2 bytes; then the video words
+ * of 4 (docs/REFERENCE.md, §11.1). */
 #include "dump.h"
 #include <stdlib.h>
 #include "outputs.h"

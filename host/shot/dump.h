@@ -1,4 +1,4 @@
-/* A dump: what document 01's bench reads ("The bench"), with a video memory of any length. */
+/* A dump: the bench's input (docs/REFERENCE.md, §11.1), with a video memory of any length. */
 #ifndef DUMP_H
 #define DUMP_H
 
@@ -17,7 +17,7 @@ struct dump {
     bool no_palette, no_hclk;                           /* none was given with the words */
 };
 
-/* Takes a dump apart. Returns 0, or 14 where it has under 556 bytes or a tail that is no multiple of 4. */
+/* Takes a dump apart. Returns 0, or 14 if it has fewer than 556 bytes or its video memory is no multiple of 4 bytes. */
 uint32_t dump_take(struct dump *d, const struct bytes *b);
 
 /* Takes a memory of 4 bytes a word, low byte first. Returns false where its length is no multiple of 4. */

@@ -8,7 +8,7 @@ struct curing {
     struct readings given; /* the words as they were */
     struct cure made;
     bool cleared, lent;
-    uint32_t moved_for; /* the fault whose cure moved the view */
+    uint32_t moved_for; /* the fault whose cure moved the viewport */
 };
 
 /* Notes a change that is made; a field that was changed before has one number still. */
@@ -46,7 +46,7 @@ static bool lift(struct curing *c, const struct fault *f) {
     return quiet.count;
 }
 
-/* 6 to 8 are about the view that a cure of 5 or 7 moves. */
+/* 6 to 8 are about the viewport that a cure of 5 or 7 moves. */
 static void find_cures(const struct curing *c, struct fault *f) {
     uint32_t words[LCD_REGISTERS];
     words_cleared(c->words.dump.words, words);

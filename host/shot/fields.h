@@ -1,5 +1,5 @@
-/* The registers and their fields by name (document 01, "The nine words"): where they lie, which is asked of the library, their numbers
- * in a dump, and what a number means. */
+/* The registers and their fields by name (docs/REFERENCE.md, §1.2): where they lie, as the library tells it, their numbers in a dump,
+ * and what a number means. */
 #ifndef FIELDS_H
 #define FIELDS_H
 
@@ -18,7 +18,7 @@ const char *field_name(int field);
 
 enum { RESERVED = -1, READ_ONLY = -2 };
 
-/* A stretch of bits of one word that belongs together. */
+/* Bits of a word that belong together: a field, or reserved bits. */
 struct part {
     int high, low;
     int field;        /* of lcd_field, RESERVED or READ_ONLY */

@@ -1,7 +1,6 @@
 /* lcdshot: the picture of a whole panel from a dump or from nine words, an account of its registers, and comparisons with a golden
- * picture or another dump (document 01, "The bench", for the dump and the line of counts). It draws with the proved library and adds
- * files and words only. It exits with 0; with 1 where a dump is refused or something differs; with 2 where it can't do what it is
- * asked. */
+ * picture or another dump. Dump and line of counts are the bench's (docs/REFERENCE.md, §11). The proved library draws; the tool adds
+ * only files and text. Exit status: 0; 1 if a dump is refused or something differs; 2 if it can't do what it is asked. */
 #include <inttypes.h>
 #include <signal.h>
 #include <stdio.h>

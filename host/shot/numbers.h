@@ -1,5 +1,5 @@
-/* The arithmetic of a refusal: document 01's conditions ("Numbers of refusal") with a dump's numbers put in. It explains what the
- * library said, and decides nothing. */
+/* The arithmetic of a refusal: its condition (docs/REFERENCE.md, §9.1) with a dump's numbers put in. It explains what the library said,
+ * and decides nothing. */
 #ifndef NUMBERS_H
 #define NUMBERS_H
 

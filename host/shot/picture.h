@@ -1,4 +1,4 @@
-/* A picture: colours 0xRRGGBB row after row, as the model draws them, and its PNG file. */
+/* A picture: colours 0xRRGGBB row by row, as the library draws them, and its PNG file. */
 #ifndef PICTURE_H
 #define PICTURE_H
 

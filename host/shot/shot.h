@@ -31,7 +31,7 @@ void shot_take(struct shot *s, const struct bytes *b, bool all_faults);
 /* Judges and draws the dump that the shot has already. */
 void shot_judge(struct shot *s, bool all_faults);
 
-/* Holds the picture, where there is one, against a golden one. */
+/* Compares the picture, if there is one, with a golden one. */
 void shot_compare(struct shot *s, const struct bytes *golden, uint32_t tolerance);
 
 /* The exit status that the shot asks for: 0, 1 or 2. */

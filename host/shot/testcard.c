@@ -1,6 +1,6 @@
 /* The test card's dump: registers with porches for the size, a palette for the mode, and the card's picture in video memory as
- * software on the chip stores it, first pixel at the lowest address. The chip takes a word's highest bits first (document 01, "Where
- * a pixel lies"), so 16 bits want HWSWP and fewer want BSWP. */
+ * software on the chip stores it, first pixel at the lowest address. A word's first pixel is in its highest bits (docs/REFERENCE.md,
+ * §4.1), so 16 bits need HWSWP and fewer need BSWP. */
 #include "testcard.h"
 #include <inttypes.h>
 #include <stdio.h>
@@ -17,8 +17,8 @@ struct timing {
     uint32_t width, height, hsync, hback, hfront, vsync, vback, vfront;
 };
 
-/* Panels of a known size. The first is the TD035STED4 with the numbers that document 01's T8 has from source 004; the others have
- * numbers usual for their glass: LQ035Q1DG06, LQ043T3DX02, LQ64D343, AT070TN83. */
+/* Panels of a known size. The first is the TD035STED4 with the numbers of T8 (§13.1); the others have usual numbers for such panels:
+ * LQ035Q1DG06, LQ043T3DX02, LQ64D343, AT070TN83. */
 static const struct timing panels[] = {
     {240, 320, 10, 20, 10, 2, 2, 2},   {320, 240, 4, 68, 66, 9, 4, 4},    {480, 272, 41, 2, 2, 10, 2, 2},
     {640, 480, 96, 48, 16, 2, 33, 10}, {800, 480, 48, 40, 40, 3, 29, 13},

@@ -5,7 +5,7 @@ use lib.Dec.{T, leb, lit≤}
 use lib.Pow.{shl-exact}
 use Rattle.laws.specs.PackingLaws.{Field, Packed}
 
--- b, which is the byte x, moved up inside a number of so many bits
+-- b, which equals the byte x, shifted up inside a number of so many bits
 pub byte-moved-up : (b x low bits : ℕ) → T (leb (8 + low) bits) → (b ≡ x) × (b < 2 ^ 8)
     → Field ((b * 2 ^ low) % 2 ^ bits) x 8 low
 byte-moved-up b x low bits t is =

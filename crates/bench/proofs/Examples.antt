@@ -1,5 +1,5 @@
--- Worked examples of document 01 ("The bench", "Numbers of refusal"), tried on the definitions: both sides of each limit of refusal
--- 14, numbers low byte first, and the line of a row.
+-- Worked examples of the bench (§11), tried on the definitions: both sides of each limit of refusal 14, numbers low byte first, and
+-- the line of a row.
 use mathlib.Core.Bool.{true, false}
 use mathlib.Core.List.{List, [], _∷_}
 use mathlib.Core.Path.{_≡_, refl}
@@ -47,7 +47,7 @@ pub t1-line : stores (rowText (0x112233 ∷ [])) 0 7 (1 ∷ 2 ∷ 3 ∷ 4 ∷ 5 
 unfolding stores rowText columnText colourText digitChar
 t1-line = refl
 
--- 09af00 and 00ff9a: a space between them, a newline behind
+-- 09af00 and 00ff9a: a space between them, a newline at the end
 pub two-columns : stores (rowText (0x09af00 ∷ 0x00ff9a ∷ [])) 0 14 (0 ∷ 0 ∷ 0 ∷ 0 ∷ 0 ∷ 0 ∷ 0 ∷ 0 ∷ 0 ∷ 0 ∷ 0 ∷ 0 ∷ 0 ∷ 0 ∷ [])
     ≡ 0x30 ∷ 0x39 ∷ 0x61 ∷ 0x66 ∷ 0x30 ∷ 0x30 ∷ 0x20 ∷ 0x30 ∷ 0x30 ∷ 0x66 ∷ 0x66 ∷ 0x39 ∷ 0x61 ∷ 0x0a ∷ []
 unfolding stores rowText columnText colourText digitChar

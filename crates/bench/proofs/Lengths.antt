@@ -1,4 +1,4 @@
--- What refusal 14 leaves of the lengths.
+-- The lengths that 14 does not refuse (§11.3).
 use mathlib.Core.Bool.{false, not, _||_}
 use mathlib.Core.Path.{_≡_}
 use Prim.Native.Nat.{ℕ, _-_, _%_, _≤_}

@@ -1,6 +1,5 @@
-// The bench program (document 01, "The bench"): nine words, HCLK, window start, palette and video words come on standard input;
-// out goes one line of counts and one line a row, or `refused N`. All input is read before anything is printed, and a refusal
-// is known before the counts are printed.
+// The bench program (§11): nine words, HCLK, window start, palette and video words come on standard input; it prints a line of counts
+// and a line for each row, or only `refused N`. All input is read, and all refusals are judged, before anything is printed.
 ghost use Prim.Native.Nat.{_≤_};
 ghost use lib.ListN.{length};
 
@@ -20,8 +19,8 @@ use panel::geometry::width;
 use registers::Loaded;
 use registers::load;
 
-// Every row from the first on. None is refused where the first was not: what differs from row to row is its number alone, and
-// that stays below the height. A refusal would end the output.
+// Prints every row. None is refused once the first was accepted: rows differ by their number alone, which stays below the height.
+// A refusal would end the output.
 fn print_rows(s: Screen, video: &[u32], palette: &[u16], row: &mut [u32])
     requires { ⌜ 2048 ≤ length (now row) ⌝ }
 {
@@ -49,7 +48,7 @@ fn print_panel(s: Screen, hclk: u32, video: &[u32], palette: &[u16]) {
     print_rows(s, video, palette, &mut row);
 }
 
-// Words, HCLK and window start come first, then the palette.
+// Nine words, HCLK and window start come first (44 bytes), then the palette (512 bytes).
 fn print_video(bytes: &[u8], video: &[u32])
     requires { ⌜ 556 ≤ length (now bytes) ⌝ }
 {
@@ -69,7 +68,7 @@ fn print_video(bytes: &[u8], video: &[u32])
     }
 }
 
-// The first n bytes are the input; its tail are the video words.
+// The first n bytes are the input; from byte 556 on it holds the video words.
 fn print_input(bytes: &[u8], n: usize)
     requires { ⌜ (n ≤ length (now bytes)) × (556 ≤ n) × (n ≤ 33324) ⌝ }
 {
@@ -79,7 +78,7 @@ fn print_input(bytes: &[u8], n: usize)
     print_video(bytes, &video[..tail]);
 }
 
-// The buffer has room for the longest input and one byte more, by which a longer one is seen.
+// The buffer holds the longest input and one byte more, so that a longer input is noticed.
 fn main() {
     let mut bytes = [0u8; 33325];
     let n = io::read_full(libc::STDIN_FILENO, &mut bytes);

@@ -1,4 +1,4 @@
-// What the bench prints (document 01, "The bench"): the counts, the rows, or a refusal.
+// What the bench prints (§11.2): the counts, the rows, or a refusal.
 ghost use Prim.Native.Nat.{_+_, _*_, _<_, _≤_};
 ghost use mathlib.Core.Path.{_≡_};
 ghost use lib.ListN.{length};
@@ -27,7 +27,7 @@ pub(crate) fn print_counts(w: Words, hclk: u32) {
     io::write_all(STDOUT_FILENO, b"\n");
 }
 
-// The character of a digit.
+// The character of a hexadecimal digit.
 fn digit(d: u32) -> u8
     requires { ⌜ d < 16 ⌝ }
     ensures { λ r. ⌜ r ≡ digitChar d ⌝ }
@@ -39,7 +39,7 @@ fn digit(d: u32) -> u8
     }
 }
 
-// A colour's six hexadecimal digits, to the text from a place on.
+// A colour's six hexadecimal digits go to the text from `at` on.
 fn spell_colour(colour: u32, at: usize, text: &mut [u8])
     requires { ⌜ at + 6 ≤ length (now text) ⌝ }
     ensures { λ _. ⌜ now (text .exit) ≡ stores (colourText colour) at 6 (now (text .entry)) ⌝ }
@@ -51,14 +51,14 @@ fn spell_colour(colour: u32, at: usize, text: &mut [u8])
     }
 }
 
-// What stands behind a colour.
+// What follows a colour: a newline after the row's last, else a space.
 fn parting(last: bool) -> u8
     ensures { λ r. ⌜ r ≡ parting last ⌝ }
 {
     if last { b'\n' } else { b' ' }
 }
 
-// The line of a row: its colours parted by one space, and a newline.
+// The line of a row: its colours with one space between them, and a newline.
 fn spell_row(row: &[u32], text: &mut [u8])
     requires { ⌜ 7 * length (now row) ≤ length (now text) ⌝ }
     ensures { λ _. ⌜ now (text .exit) ≡ stores (rowText (now (row .entry))) 0 (7 * length (now (row .entry))) (now (text .entry)) ⌝ }
@@ -71,7 +71,7 @@ fn spell_row(row: &[u32], text: &mut [u8])
     }
 }
 
-// Seven bytes a colour, and at most 2,048 colours.
+// The text has room for 2,048 colours of seven bytes each.
 pub(crate) fn print_row(row: &[u32])
     requires { ⌜ length (now row) ≤ 2048 ⌝ }
 {

@@ -1,6 +1,6 @@
--- The worked cases of document 01 (T1 of "The bench", T2 to T11 of "Both sides of the line"), "proved about the definitions as a
--- single table under one claim". A row sets what the definitions give beside the paper's numbers. Each thing that rows ask for has a
--- name here, and its `unfolding` line names what it computes with: where it unfolds, so do they.
+-- The worked cases T1 to T11 (§13.1), all under one claim. A row of the table holds what the definitions give and the numbers that the
+-- case expects. What the rows compute has a name here; its `unfolding` line lists the definitions that it computes with, so that they
+-- unfold wherever it does.
 use mathlib.Core.Bool.{Bool, true, false, _&&_}
 use mathlib.Core.List.{List, [], _∷_, map}
 use mathlib.Core.Path.{_≡_}
@@ -40,7 +40,7 @@ use Rattle.memory.specs.Memory.{screen, judgeMemory, outsideMemory, wordOutside
 pub data Name : Type 0 where
   T1 T2 T3 T4 T5 T6 T7 T8 T9 T10 T11 : Name
 
--- a case, the numbers that the definitions give, and those of the paper
+-- a case, the numbers that the definitions give, and the numbers expected
 pub record Row : Type 0 where
   pub name : Name
   pub given : List ℕ
@@ -59,7 +59,7 @@ abbrev pub allHold : List Row → Bool
 allHold [] = true
 allHold (r ∷ rs) = same (r .given) (r .paper) && allHold rs
 
--- ---- what is given, as numbers: first the number of the refusal, 0 for none, then the values
+-- ---- answers as numbers: first the number of the refusal, 0 for none, then the values
 
 abbrev answered : {A : Type 0} → (A → List ℕ) → Answer A → List ℕ
 answered values (accepted a) = 0 ∷ values a
@@ -87,9 +87,9 @@ nine w =
 abbrev leftBy : Outcome → List ℕ
 leftBy o = o .refusal ∷ o .left
 
--- ---- what the cases are about
+-- ---- inputs of the cases
 
--- T1's words, window start and memory; it uses no palette, and is lent one of zeros
+-- T1's words, window start and memory; its mode uses no palette, so a palette of zeros is lent
 abbrev t1 : List ℕ
 t1 = 0x7B ∷ 0x4000 ∷ 0 ∷ 0 ∷ 0 ∷ 0x18000000 ∷ 4 ∷ 2 ∷ 0 ∷ []
 
@@ -102,7 +102,7 @@ t1Memory = 0x00112233 ∷ 0x00AABBCC ∷ []
 abbrev zeros : List ℕ
 zeros = replicate 256 0
 
--- T9's words; T8 and T10 are of the same panel
+-- T9's words; T8 and T10 use the same panel
 abbrev t9 : List ℕ
 t9 = 0x479 ∷ 0x014FC041 ∷ 0x0098EF09 ∷ 0x9 ∷ 0xB09 ∷ 0x18000000 ∷ 0x12C00 ∷ 0xF0 ∷ 0 ∷ []
 
@@ -139,14 +139,14 @@ t9Fields =
 abbrev t11 : ℕ → List ℕ
 t11 hozval = 0x7B ∷ 0 ∷ hozval * 2 ^ 8 ∷ 0 ∷ 0 ∷ 0x18000000 ∷ 2046 ∷ 2046 ∷ 0 ∷ []
 
--- ---- what the rows ask for
+-- ---- what the rows compute
 
--- the judgement of nine words by 1 to 7
+-- the judgement of nine words by 1 to 7 (§9.3)
 unfoldable pub judgement : List ℕ → ℕ
 unfolding judge lowest lower reservedBit notTft noSuchMode outsideModes swapsIllegal storedBits rowSizeWrong endDiffers pastBank rowOffset
 judgement words = judge (nineWords words)
 
--- clocks and ticks of a frame, and its rate at an HCLK
+-- clocks and ticks of a frame (§6.3), and its rate at an HCLK (§6.4)
 unfoldable pub counted : List ℕ → List ℕ
 unfolding judgement counts mapped accept andThen load shortOfNine judged lineClocks frameLines frameClocks frameTicks
 counted words = answered clocksAndTicks (counts words)
@@ -155,7 +155,7 @@ unfoldable pub rated : List ℕ → ℕ → List ℕ
 unfolding counted rate
 rated words hclk = answered alone (rate words hclk)
 
--- the sizes that words say: W, H, HSPW, HBPD, HFPD, VSPW, VBPD, VFPD, CLKVAL
+-- the sizes in the words: W, H, HSPW, HBPD, HFPD, VSPW, VBPD, VFPD, CLKVAL
 abbrev sizes : Words → List ℕ
 sizes w =
     width w
@@ -169,17 +169,17 @@ sizes w =
     ∷ Field.clkval w
     ∷ []
 
--- the stored bits of a pixel in the mode that words say
+-- the stored bits of a pixel in the words' mode (§2.2)
 unfoldable pub depth : List ℕ → ℕ
 unfolding storedBits
 depth words = storedBits (bppmode (nineWords words))
 
--- pixels of the word 0x01234567, by stored bits, BSWP, HWSWP and their numbers
+-- pixels of the word 0x01234567, by stored bits, BSWP, HWSWP and the pixels' places in the word (§4.1 to §4.3)
 unfoldable pub pixels : ℕ → Bool → Bool → List ℕ → List ℕ
 unfolding storedPixel Order.inOrder Order.reverseBytes Order.exchangeHalves Order.pixelBits
 pixels s bswp hwswp numbers = map (storedPixel s bswp hwswp (0x01234567 ∷ []) 0) numbers
 
--- colours of 24 bits and of 16
+-- colours of stored 24-bit pixels (§4.5) and of 16-bit numbers (§5.2, §5.3)
 unfoldable pub cuts : Bool → List ℕ → List ℕ
 unfolding cut24
 cuts bpp24bl numbers = map (cut24 bpp24bl) numbers
@@ -188,22 +188,22 @@ unfoldable pub expansions : Expansion → List ℕ → List ℕ
 unfolding expanded expanded565 expanded5551
 expansions e numbers = map (expanded e) numbers
 
--- the words that fields are packed to
+-- the words into which fields are packed (§1.5)
 unfoldable pub written : Fields → List ℕ
 unfolding judged write fieldTooWide
 written fields = answered nine (write fields)
 
--- the judgement of nine words by 1 to 8, with the window start and so many words of memory
+-- the judgement of nine words by 1 to 8, with a window start and the number of memory words lent (§3.6)
 unfoldable pub judgementOf : List ℕ → ℕ → ℕ → ℕ
 unfolding judgement judgeMemory outsideMemory wordOutside rowAddress someBelow
 judgementOf words window-start lent = judgeMemory (screen (nineWords words) window-start) lent
 
--- the colour of a pixel of T1's panel
+-- the colour of a pixel of T1's panel (§5.5)
 unfoldable pub t1Colour : ℕ → ℕ → ℕ
 unfolding pixels cuts expansions colour rowColour shown format expansionOf firstWord rowAddress
 t1Colour r c = colour t1Screen (lending t1Memory zeros) r c
 
--- its picture, and a row of it, drawn to lent entries
+-- T1's picture, and a row of it, drawn to lent entries (§5.6)
 unfoldable pub t1Picture : List ℕ → List ℕ
 unfolding judgementOf t1Colour drawPicture judgePicture judgeDrawing videoOff paletteWrong tooShort outcome stores colourInOrder
 t1Picture lent = leftBy (drawPicture t1Screen (lending t1Memory zeros) lent)
@@ -219,50 +219,50 @@ rows =
     -- T1: clocks 20 hclk 40 mhz 25000
     row T1 (counted t1) (0 ∷ 20 ∷ 40 ∷ [])
     ∷ row T1 (rated t1 1000) (0 ∷ 25000 ∷ [])
-    -- T1: its two colours 112233, aabbcc; the picture of them; "entries past W × H stay"
+    -- T1: its two colours 112233, aabbcc; the picture of them; a third entry stays
     ∷ row T1 (map (λ r. t1Colour r 0) (0 ∷ 1 ∷ [])) (0x112233 ∷ 0xAABBCC ∷ [])
     ∷ row T1 (t1Picture (0 ∷ 0 ∷ [])) (0 ∷ 0x112233 ∷ 0xAABBCC ∷ [])
     ∷ row T1 (t1Picture (7 ∷ 8 ∷ 9 ∷ [])) (0 ∷ 0x112233 ∷ 0xAABBCC ∷ 9 ∷ [])
-    -- T1: its two rows, each to the first of two lent entries
+    -- T1: its two rows, each drawn to the first of two lent entries
     ∷ row T1 (t1Row 0 (7 ∷ 8 ∷ [])) (0 ∷ 0x112233 ∷ 8 ∷ [])
     ∷ row T1 (t1Row 1 (7 ∷ 8 ∷ [])) (0 ∷ 0xAABBCC ∷ 8 ∷ [])
-    -- T2: word 0x01234567 at 8 bits: 01 23 45 67; with BSWP 67 45 23 01
+    -- T2: the four pixels of 0x01234567 at 8 bits, without and with BSWP
     ∷ row T2 (pixels 8 false false (0 ∷ 1 ∷ 2 ∷ 3 ∷ [])) (0x01 ∷ 0x23 ∷ 0x45 ∷ 0x67 ∷ [])
     ∷ row T2 (pixels 8 true false (0 ∷ 1 ∷ 2 ∷ 3 ∷ [])) (0x67 ∷ 0x45 ∷ 0x23 ∷ 0x01 ∷ [])
-    -- T3: at 4 bits with BSWP 6 7 4 5 2 3 0 1
+    -- T3: its eight pixels at 4 bits with BSWP: each byte keeps its nibbles in order
     ∷ row T3 (pixels 4 true false (0 ∷ 1 ∷ 2 ∷ 3 ∷ 4 ∷ 5 ∷ 6 ∷ 7 ∷ [])) (6 ∷ 7 ∷ 4 ∷ 5 ∷ 2 ∷ 3 ∷ 0 ∷ 1 ∷ [])
-    -- T4: 16 bits: 0123, 4567; with HWSWP 4567, 0123
+    -- T4: its two pixels at 16 bits, without and with HWSWP
     ∷ row T4 (pixels 16 false false (0 ∷ 1 ∷ [])) (0x0123 ∷ 0x4567 ∷ [])
     ∷ row T4 (pixels 16 false true (0 ∷ 1 ∷ [])) (0x4567 ∷ 0x0123 ∷ [])
-    -- T5: 24 bits: 234567; BPP24BL 012345
+    -- T5: its colour at 24 bits, with BPP24BL 0 and 1
     ∷ row T5 (cuts false (pixels 32 false false (0 ∷ []))) (0x234567 ∷ [])
     ∷ row T5 (cuts true (pixels 32 false false (0 ∷ []))) (0x012345 ∷ [])
-    -- T6: 565 of FFFF is F8FCF8, of 07E0 is 00FC00
+    -- T6: colours of 5:6:5 numbers
     ∷ row T6 (expansions Rgb565 (0xFFFF ∷ 0x07E0 ∷ [])) (0xF8FCF8 ∷ 0x00FC00 ∷ [])
-    -- T7: 5551 of FFFF is FCFCFC, of 0001 is 040404
+    -- T7: colours of 5:5:5:1 numbers
     ∷ row T7 (expansions Rgb5551 (0xFFFF ∷ 0x0001 ∷ [])) (0xFCFCFC ∷ 0x040404 ∷ [])
-    -- T8: a 240 by 320 panel with HSPW 9, HBPD 19, HFPD 9, VSPW 1, VBPD 1, VFPD 1, CLKVAL 4
+    -- T8: the sizes of a 240 by 320 panel
     ∷ row T8 (sizes (nineWords t9)) (240 ∷ 320 ∷ 9 ∷ 19 ∷ 9 ∷ 1 ∷ 1 ∷ 1 ∷ 4 ∷ [])
-    -- T8: 91,280 clocks, 912,800 ticks, and 109,553 mHz at 100 MHz
+    -- T8: its clocks and ticks, and its rate in millihertz at 100 MHz
     ∷ row T8 (counted t9) (0 ∷ 91280 ∷ 912800 ∷ [])
     ∷ row T8 (rated t9 100000000) (0 ∷ 109553 ∷ [])
-    -- T9: the same panel at 16 bits has words 0x479, 0x014FC041 and so on
+    -- T9: T8's panel at 16 bits: its fields give these nine words
     ∷ row T9 (depth t9 ∷ []) (16 ∷ [])
     ∷ row T9 (written t9Fields) (0 ∷ t9)
-    -- T10: with start 0x30000000, 38,400 memory words suffice and 38,399 give 8
+    -- T10: T9's panel is refused with one memory word less than its 38,400
     ∷ row T10 (map (judgementOf t9 0x30000000) (38399 ∷ 38400 ∷ [])) (8 ∷ 0 ∷ [])
-    -- T11: 24 bits, width 1023 with PAGEWIDTH 2046 is accepted, width 1024 with it gives 5
+    -- T11: at 24 bits with PAGEWIDTH 2046, width 1023 is accepted, width 1024 gives 5
     ∷ row T11 (map (λ hozval. judgement (t11 hozval)) (1022 ∷ 1023 ∷ [])) (0 ∷ 5 ∷ [])
     ∷ []
 
 -- ---- the claim
 
 pub record WorkedCases : Type 0 where
-  -- T1 to T10, and words of T11
+  -- T1 to T10, and T11's two examples
   pub table : T (allHold rows)
-  -- T11: 24 bits, width 1023 needs PAGEWIDTH 2046
+  -- T11 (§3.4): at 24 bits a width of 1023 is accepted with PAGEWIDTH 2046 only
   pub width-1023 : (w : Words) → judge w ≡ 0 → bppmode w ≡ 13 → width w ≡ 1023 → pagewidth w ≡ 2046
-  -- T11: 24 bits, width 1024 gives 5 with any field, where 1 to 4 do not apply
+  -- T11 (§3.4): at 24 bits a width of 1024 gives 5 whatever PAGEWIDTH is, unless a lower number applies
   pub width-1024 : (w : Words) → bppmode w ≡ 13 → width w ≡ 1024 → reservedBit w ≡ false
       → notTft w ≡ false → swapsIllegal w ≡ false → judge w ≡ 5
 

@@ -1,5 +1,6 @@
-// The calls that draw: a pixel, a row, a picture, a stretch. Each is made with what is lent, and its answer held to what the line says
-// is due: the number of the refusal or 0, then the entries. A stretch judges nothing, so its answer is 0.
+// The calls that draw: a pixel, a row, a picture (§5.6), a stretch (§5.7). Each is made with what is lent, and its answer compared with
+// what is due, the numbers after the line's `=`: the number of the refusal or 0, then the entries. A stretch judges nothing, so its
+// answer is 0.
 use super::case::Case;
 use super::lent::lend_palette;
 use super::lent::lend_video;
@@ -71,7 +72,7 @@ fn draw(
     }
 }
 
-// Lends the first entries of `out`, as many as the line's first number says.
+// Lends the first entries of `out`; the line's first number says how many.
 fn draw_lent(
     case: Case,
     shape: Shape,
@@ -85,7 +86,7 @@ fn draw_lent(
     draw(case, shape, s, palette, video, &mut out[..n])
 }
 
-// The entry at which what is due begins.
+// The first entry that the line gives a value for.
 fn first_entry(case: Case, shape: Shape) -> usize {
     let given = case.given;
     match shape {
@@ -94,13 +95,13 @@ fn first_entry(case: Case, shape: Shape) -> usize {
     }
 }
 
-// Whether the answer and every entry are due.
+// Whether the answer and every entry are as due.
 fn outcome_agrees(text: &[u8], case: Case, shape: Shape, answer: u32, out: &[u32]) -> bool {
     let right = number_agrees(case, answer);
     entries_agree(text, case, first_entry(case, shape), out) & right
 }
 
-// A row, picture or stretch: what is drawn and, where it is accepted, each of its pixels through a reader.
+// A row, picture or stretch: what is drawn and, for an accepted row or picture, each of its pixels through a reader.
 fn entries_drawn(
     text: &[u8],
     case: Case,
@@ -135,7 +136,7 @@ fn drawn_of_words(text: &[u8], case: Case, shape: Shape, w: Words) -> bool {
     }
 }
 
-// Words that are refused draw nothing.
+// With too few words nothing is drawn.
 fn undrawn_agrees(text: &[u8], case: Case, shape: Shape, answer: u32) -> bool {
     let mut out = [0u32; 4096];
     prefill(&mut out);

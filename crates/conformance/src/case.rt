@@ -1,4 +1,4 @@
-// A case, and how many of a group's were run.
+// A case of a vector file, and the tally of a group's cases.
 use super::lent::Lent;
 use super::text::Numbers;
 use super::text::Until;
@@ -6,8 +6,8 @@ use super::text::count_at;
 use super::text::numbers_at;
 use super::text::scan;
 
-// A line: the argument that names its file, its number there, the numbers that are given and those that are due, where both begin,
-// how many are due, and what is lent.
+// A case is a line: the argument that names its file, its line number, the numbers given and those due (after `=`), where in the text
+// both begin, how many are due, and what is lent.
 pub(crate) struct Case {
     pub group: usize,
     pub line: u64,

@@ -1,5 +1,5 @@
 // The calls that draw nothing: the check, a frame's counts and its rate; and a clock's levels. Each call is made with what is lent, and
-// its answer held to what is due: the number of the refusal or 0, then the values.
+// its answer compared with what is due: the number of the refusal or 0, then the values.
 use super::case::Case;
 use super::lent::lend_video;
 use super::lent::lend_words;
@@ -55,7 +55,7 @@ pub(crate) fn rate_agrees(text: &[u8], case: Case) -> bool {
     }
 }
 
-// Whether an accepted step with these levels is due.
+// Whether the line expects an accepted step with these levels.
 pub(crate) fn clock_agrees(case: Case, clock: Clock) -> bool {
     let due = case.due;
     let right = begins_with(case, 5, 0);

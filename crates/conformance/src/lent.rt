@@ -1,4 +1,4 @@
-// What the cases of a vector file are lent: the settings that hold from their line on.
+// What the cases of a vector file are lent: each setting holds from its line on.
 ghost use Rattle.io.specs.Counts.{Counts};
 use super::listed::count_up;
 use super::text::Until;
@@ -9,7 +9,7 @@ use super::text::scan;
 use super::text::word_at;
 use super::text::words;
 
-// Where the lines of the latest settings begin, and the small ones themselves.
+// Where in the text the numbers of the latest words, palette and video words begin; the smaller settings by value.
 pub(crate) struct Lent {
     pub words: usize,
     pub palette: usize,
@@ -19,7 +19,7 @@ pub(crate) struct Lent {
     pub hclk: u32,
 }
 
-// Before any setting: all slices empty, since nothing stands past the text.
+// Before any setting all slices are empty: past the end of the text there are no numbers.
 pub(crate) fn nothing_lent(text: &[u8]) -> Lent {
     let end = text.len();
     Lent {
@@ -32,7 +32,7 @@ pub(crate) fn nothing_lent(text: &[u8]) -> Lent {
     }
 }
 
-// The settings after a line; one that sets nothing leaves them.
+// The settings after a line; a line that is no setting leaves them.
 pub(crate) fn set(text: &[u8], at: usize, lent: Lent) -> Lent {
     let mut l = lent;
     let end = scan(text, at, Until::Space);
@@ -79,7 +79,7 @@ pub(crate) fn lend_palette(text: &[u8], lent: Lent, out: &mut [u16]) -> usize
     halves(text, lent.palette, out)
 }
 
-// The video words: listed, or counted up by count, first word and step.
+// The video words: listed one by one, or counted up from a line's count, first word and step.
 pub(crate) fn lend_video(text: &[u8], lent: Lent, out: &mut [u32]) -> usize
     ensures { λ r. ⌜ Counts r (now (out .exit)) ⌝ }
 {

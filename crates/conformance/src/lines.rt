@@ -1,4 +1,4 @@
-// The lines of a vector file: settings, calls, and what is neither.
+// The lines of a vector file: settings, calls, and what sets or checks the state and picture of a scan. Other lines are skipped.
 use super::calls::Shape;
 use super::calls::drawing_agrees;
 use super::case::Case;
@@ -20,7 +20,7 @@ use super::scan::run_call;
 use super::text::key_at;
 use super::text::next_line;
 
-// The tally after a line that may make a call of those that keep nothing.
+// The tally after a line; calls that keep no state are made here.
 fn run_plain(text: &[u8], at: usize, case: Case, tally: Tally) -> Tally {
     match key_at(text, at, b"check counts rate pixel row picture stretch") {
         0 => counted(tally, check_agrees(text, case)),

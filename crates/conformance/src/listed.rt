@@ -1,5 +1,5 @@
-// The entries of a lent row or picture: what lies there before a call, and what is due after it. A refusal's line lists none, so
-// all of them are due as they were; so are the entries outside of what a call draws.
+// The entries of a lent row or picture: what they hold before a call, and what is due after it. Entries that a call does not draw must
+// be as they were; after a refusal, whose line lists none, that is all of them (§9.5).
 ghost use Rattle.io.specs.Counts.{Counts};
 use super::case::Case;
 use super::report::agrees;
@@ -7,7 +7,7 @@ use super::report::entry_agrees;
 use super::text::words;
 use super::text::words_from;
 
-// The first n entries of `out` become first, first + step, first + 2 x step and so on, modulo 2^32.
+// The first n entries of `out` become first, first + step, first + 2 × step and so on, modulo 2^32.
 pub(crate) fn count_up(first: u32, step: u32, n: usize, out: &mut [u32]) -> usize
     ensures { λ r. ⌜ Counts r (now (out .exit)) ⌝ }
 {
@@ -24,12 +24,12 @@ pub(crate) fn count_up(first: u32, step: u32, n: usize, out: &mut [u32]) -> usiz
     i
 }
 
-// Different numbers, none of them a colour.
+// Fills the entries with different numbers, none of them a colour.
 pub(crate) fn prefill(entries: &mut [u32]) {
     count_up(0xdead_0000, 1, entries.len(), entries);
 }
 
-// So many entries, or all where there are fewer.
+// n, or the number of entries where that is less.
 pub(crate) fn up_to(n: u64, entries: &[u32]) -> usize
     ensures { λ r. ⌜ Counts r (now (entries .entry)) ⌝ }
 {
@@ -72,7 +72,7 @@ fn put_due(text: &[u8], case: Case, first: usize, due: &mut [u32]) {
     }
 }
 
-// Whether the entries are what the line says is due, its values being those from the first on.
+// Whether the entries are as due: the line's values from entry `first` on, the others as they were.
 pub(crate) fn entries_agree(text: &[u8], case: Case, first: usize, out: &[u32]) -> bool {
     let mut due = [0u32; 4096];
     prefill(&mut due);

@@ -1,4 +1,4 @@
-// Lookups through a reader, held against the plain forms: one pixel against `draw_pixel`, a row and a picture entry by entry against
+// Lookups through a reader (§12.1), compared with the plain calls: one pixel with `draw_pixel`, a row and a picture entry by entry with
 // what was drawn.
 use super::calls::Shape;
 use super::case::Case;
@@ -26,7 +26,7 @@ fn number_of(d: Drawn) -> u64 {
     }
 }
 
-// Whether a reader gives for a pixel what the plain form gave.
+// Whether a reader gives the same for a pixel as the plain call.
 pub(crate) fn lookup_agrees(
     case: Case,
     s: Screen,
@@ -54,7 +54,7 @@ fn next_place(place: Place, wide: u32) -> Place {
     }
 }
 
-// Whether a reader gives each of these entries, which were drawn in reading order from the first column of a row on.
+// Whether a reader gives each of these entries, drawn in reading order from the first column of `row` on.
 fn entries_read(
     case: Case,
     s: Screen,
@@ -76,7 +76,7 @@ fn entries_read(
     right
 }
 
-// How many entries from the first on an accepted call has drawn; a stretch begins elsewhere.
+// How many entries an accepted call has drawn from entry 0 on; a stretch begins elsewhere and is not read.
 fn drawn_from_the_first(shape: Shape, w: Words) -> u64 {
     match shape {
         Shape::Row => width(w) as u64,

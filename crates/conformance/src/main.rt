@@ -1,8 +1,7 @@
-// The conformance program: runs the vectors of data/ through the library's calls (document 01: "Where a pixel lies", "Colours",
-// "Clocks and lines", "Numbers of refusal"). Each argument names a file of data/, a group of cases; data/hand says at its top
-// what such a file looks like. Pixels, rows and pictures are also looked up through a reader, and steps taken in place, against the
-// plain forms. The program prints a line for every answer that differs and, for each group, its name and how many cases it has, all
-// well or how many differ.
+// The conformance program: runs the vectors of data/ through the library's calls (§3 to §9). Each argument names a file of data/, a
+// group of cases; the head of data/hand describes the format. Pixels, rows and pictures are also read through a reader (§12.1) and
+// steps are also taken in place (§12.2); both must agree with the plain calls. The program prints a line for every answer that
+// differs, and for each group its name, the number of its cases and `ok` or how many differ.
 mod calls;
 mod case;
 mod frame;

@@ -1,4 +1,4 @@
-// What a program prints: a line for each answer that differs, a line for each group.
+// What the program prints: a line for each answer that differs, a line for each group.
 use super::case::Case;
 use super::case::Tally;
 use libc::STDOUT_FILENO;
@@ -25,7 +25,7 @@ fn print_difference(got: u64, due: u64) {
     io::write_all(STDOUT_FILENO, b"\n");
 }
 
-// Whether what a call gave is what is due; else a line says which case differs, and how.
+// Whether a call gave what is due; if not, prints a line that says which case differs, and how.
 pub(crate) fn agrees(case: Case, what: &[u8], got: u64, due: u64) -> bool {
     if got == due {
         return true;
@@ -48,31 +48,31 @@ pub(crate) fn entry_agrees(case: Case, entry: u64, got: u32, due: u32) -> bool {
     false
 }
 
-// Whether the line lists so many numbers, and this one, of a refusal or 0, first.
+// Whether the line lists so many numbers, the first of them this number of a refusal or 0.
 pub(crate) fn begins_with(case: Case, numbers: u64, answer: u32) -> bool {
     let right = agrees(case, b"numbers", numbers, case.listed);
     number_agrees(case, answer) & right
 }
 
-// Whether the number of a refusal, or 0, is due.
+// Whether the line's first number is this number of a refusal, or 0.
 pub(crate) fn number_agrees(case: Case, answer: u32) -> bool {
     let due = case.due;
     agrees(case, b"answer", answer as u64, due.first)
 }
 
-// Whether it is due, and nothing else.
+// Whether the line's only number is this number of a refusal, or 0.
 pub(crate) fn answer_agrees(case: Case, answer: u32) -> bool {
     begins_with(case, 1, answer)
 }
 
-// Whether an accepted call with this value is due.
+// Whether the line expects an accepted call with this value.
 pub(crate) fn value_agrees(case: Case, value: u64) -> bool {
     let due = case.due;
     let right = begins_with(case, 2, 0);
     agrees(case, b"value", value, due.second) & right
 }
 
-// Says of which form a case's differences are, where it is not the plain one.
+// Names the form that differs, where it is not the plain call.
 pub(crate) fn name_form(case: Case, form: &[u8]) {
     print_case(case);
     io::write_all(STDOUT_FILENO, b"differs by the ");
@@ -98,7 +98,7 @@ pub(crate) fn print_group(group: usize, tally: Tally) {
     print_differ(tally.differ);
 }
 
-// Instead of a group's line, where its file is too long.
+// Replaces a group's line where its file is too long.
 pub(crate) fn print_too_long(group: usize) {
     print_name(group);
     io::write_all(STDOUT_FILENO, b": more than 65535 bytes\n");

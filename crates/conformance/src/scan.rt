@@ -1,4 +1,4 @@
-// The calls of a scan. State and picture are kept from line to line: what one call leaves is what the next one is given.
+// The calls of a scan (§7). State and picture are kept from line to line: each call gets what the call before it left.
 use super::case::Case;
 use super::case::Tally;
 use super::case::counted;
@@ -30,14 +30,14 @@ use scanout::step::step;
 use scanout::viewport::Changed;
 use scanout::viewport::change_viewport;
 
-// What is kept from line to line: the state of the scan, how many entries of the picture a run is lent, and the tally.
+// Kept from line to line: the state of the scan, how many entries of the picture a run is lent, and the tally.
 pub(crate) struct Scan {
     pub state: State,
     pub room: u64,
     pub tally: Tally,
 }
 
-// Before any line: all numbers of the state 0, so that every call refuses it.
+// Before any line the state is all 0, so every call refuses it.
 pub(crate) fn nothing_kept() -> Scan {
     let state = state_at(b"", 0);
     let tally = Tally {
@@ -106,7 +106,7 @@ fn same_state(case: Case, s: State, due: State) -> bool {
     same_entries(case, &numbers, &expected)
 }
 
-// The step in place: whether it answers what is due and leaves, where the state lies, the state that the plain form leaves.
+// Whether the step in place (§12.2) answers what is due and leaves the state that the plain step leaves.
 fn in_place_agrees(case: Case, old: State, palette: &[u16], video: &[u32], plain: State) -> bool {
     let placed = step_local(old, video, palette);
     let answer = placed.answer;
@@ -170,7 +170,7 @@ fn view_agrees(case: Case, kept: Scan, video: &[u32]) -> Scan {
     }
 }
 
-// What is kept after a line that may make a call; it is made with what is lent, at most 1,024 video words.
+// What is kept after a line that makes a call of the scan, with what is lent: at most 1,024 video words.
 pub(crate) fn run_call(
     text: &[u8],
     at: usize,

@@ -1,4 +1,4 @@
-// A scan's state in a vector file: nine words, window start, pending LCDSADDR1 and 2, position, in this order.
+// A scan's state in a vector file (§7.1): nine words, window start, pending LCDSADDR1 and LCDSADDR2, position, in this order.
 use super::text::word_at;
 use memory::Screen;
 use registers::Words;
@@ -34,7 +34,7 @@ fn pending_at(text: &[u8], at: usize) -> Viewport {
     }
 }
 
-// The state that a line's numbers from `at` on give.
+// The state in a line's numbers from `at` on.
 pub(crate) fn state_at(text: &[u8], at: usize) -> State {
     let screen = screen_at(text, at);
     let pending = pending_at(text, at);

@@ -1,10 +1,10 @@
-// The text of a vector file: lines, keys, hexadecimal numbers and where they end. Every function is total: what is missing reads as
+// The text of a vector file: lines, keys, hexadecimal numbers and where they end. Every function is total: a missing number reads as
 // 0, and a position past the text counts as its end.
 ghost use Prim.Native.Nat.{_<_, _≤_};
 ghost use lib.ListN.{length};
 ghost use Rattle.io.specs.Counts.{Counts};
 
-// What a scan stops at, at the latest at the line's end.
+// What a scan stops at; it always stops at the end of the line.
 pub(crate) enum Until {
     LineEnd,
     Space,
@@ -49,7 +49,7 @@ fn wide(b: u8) -> u64 {
     b as u64
 }
 
-// What a digit counts.
+// The value of a digit.
 fn digit(b: u8) -> u64 {
     match b {
         48..=57 => wide(b - 48),
@@ -66,7 +66,7 @@ fn digit_at(text: &[u8], at: usize) -> bool {
     }
 }
 
-// The number whose first digit stands at a place, modulo 2^64; 0 where no digit stands.
+// The number whose first digit is at `at`, modulo 2^64; 0 where there is no digit.
 fn number(text: &[u8], at: usize) -> u64 {
     let mut value = 0;
     let mut i = at;
@@ -84,7 +84,7 @@ fn past(text: &[u8], at: usize) -> usize {
     scan(text, scan(text, at, Until::NoDigit), Until::Digit)
 }
 
-// Where the line's k-th number from `at` on begins, counted from 0.
+// Where number k of the line begins, counted from 0 from `at` on.
 fn place(text: &[u8], at: usize, k: u32) -> usize {
     let mut i = scan(text, at, Until::Digit);
     let mut left = k;
@@ -95,7 +95,7 @@ fn place(text: &[u8], at: usize, k: u32) -> usize {
     i
 }
 
-// The line's k-th number from `at` on.
+// Number k of the line, counted from 0 from `at` on.
 pub(crate) fn number_at(text: &[u8], at: usize, k: u32) -> u64 {
     number(text, place(text, at, k))
 }
@@ -109,7 +109,7 @@ fn low_16(x: u64) -> u16 {
     (x & 0xffff) as u16
 }
 
-// The line's k-th number from `at` on, as a word.
+// The same, as a word.
 pub(crate) fn word_at(text: &[u8], at: usize, k: u32) -> u32 {
     low_32(number_at(text, at, k))
 }
@@ -133,7 +133,7 @@ pub(crate) fn numbers_at(text: &[u8], at: usize) -> Numbers {
     }
 }
 
-// Puts the line's numbers, from the k-th after `at` on, to the entries of `out` from `from` on, and answers where they end.
+// Puts the line's numbers, from number k after `at` on, into the entries of `out` from `from` on, and answers where they end.
 pub(crate) fn words_from(text: &[u8], at: usize, k: u32, from: usize, out: &mut [u32]) -> usize
     requires { ⌜ from ≤ length (now out) ⌝ }
     ensures { λ r. ⌜ Counts r (now (out .exit)) ⌝ }
@@ -151,7 +151,7 @@ pub(crate) fn words_from(text: &[u8], at: usize, k: u32, from: usize, out: &mut 
     n
 }
 
-// Puts the line's numbers from `at` on to the entries of `out`, and answers how many found room.
+// Puts the line's numbers from `at` on into the entries of `out`, and answers how many had room.
 pub(crate) fn words(text: &[u8], at: usize, out: &mut [u32]) -> usize
     ensures { λ r. ⌜ Counts r (now (out .exit)) ⌝ }
 {
@@ -199,7 +199,7 @@ pub(crate) fn next_line(text: &[u8], at: usize) -> usize
     scan(text, at, Until::LineEnd) + 1
 }
 
-// Which of the names, which blanks part, a word is, counted from 0; how many there are where it is none of them.
+// The place of a word among the names, which are separated by blanks, counted from 0; the number of names where it is none of them.
 fn index_of(names: &[u8], word: &[u8]) -> u32 {
     let mut k = 0;
     let mut at = 0;
@@ -214,7 +214,7 @@ fn index_of(names: &[u8], word: &[u8]) -> u32 {
     k
 }
 
-// Which of the names, which blanks part, is the key of the line at a place, counted from 0; how many there are where none is.
+// The place of the line's first word (its key) among the names, as above.
 pub(crate) fn key_at(text: &[u8], at: usize, names: &[u8]) -> u32 {
     if text.len() <= at {
         return index_of(names, b"");

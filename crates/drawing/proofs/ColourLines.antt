@@ -1,4 +1,4 @@
--- A colour has the 24 lines VD23..VD0 and no more (document 01, "Colours"), whatever the words, memory and palette.
+-- A colour has the 24 lines VD23..VD0 and no more (§5.5), whatever the words, memory and palette.
 use mathlib.Core.Bool.{Bool, true, false, cond}
 use mathlib.Core.List.{List}
 use Prim.Native.Nat.{ℕ, _^_, _<_}

@@ -1,5 +1,4 @@
--- What a format gives (document 01, "Where a pixel lies"): its size, its swaps, and how many pixels a word
--- holds.
+-- What a format gives: its size (§2.2), its swaps (§4.4), and how many pixels a word holds (§4.1).
 use mathlib.Core.Bool.{Bool, true, false, cond, _||_, true≢false}
 use mathlib.Core.List.{List, [], _∷_}
 use mathlib.Core.Path.{_≡_, refl, sym, ap, ap₂, _∙_}
@@ -87,7 +86,7 @@ module _ (f : Format) (l : Sized f) where
       go (yes h) = some-index-bits f (record { sized = l; some = h }) a b
       go (no n) = omega arith
 
--- whatever the words, their format is one of these
+-- whatever the words, their format has the size of a mode number
 pub sized-format : (w : Words) → Sized (format w)
 unfolding format
 sized-format w = record { mode = Fields.bppmode w; size = refl }
@@ -142,7 +141,7 @@ no-table f palette table e =
     hides : f .tpalen ≡ false → f .bits ≤ 8 → ⊥
     hides off few = true≢false (sym (rw (le-leb (f .bits) 8 few, off) refl) ∙ e)
 
--- by the table as by the palette
+-- a pixel shows the same by the table as by the palette
 shown-by-table : (f : Format) → Sized f → (palette table : List ℕ) → Expanded f palette table → f .tpalen ≡ false → (v : ℕ)
     → v < 2 ^ f .bits → shown f (λ i. getD table i 0) v ≡ shown f (indexed f palette) v
 shown-by-table f l palette table e off v h = go (ℕ-discrete (f .bits) 32) (ℕ-discrete (f .bits) 16)
@@ -185,11 +184,11 @@ module _ (s : ℕ) (pos : 0 < s) (fill : s * (32 / s) ≡ 32) where
   whole : 32 / s * s ≡ 32
   whole = mul-comm (32 / s) s ∙ fill
 
-  -- the word that holds a pixel, by the bit where it begins
+  -- the word that holds a pixel, by the bit where the pixel begins
   pub word-of-bit : (c : ℕ) → c * s / 32 ≡ c / (32 / s)
   word-of-bit c = ap (λ (n : ℕ). c * s / n) (sym whole) ∙ mul-div-mul-right c (32 / s) pos
 
-  -- and what lies before it there
+  -- and the bits before the pixel in that word
   pub past-in-word : (c : ℕ) → c * s % 32 ≡ c % (32 / s) * s
   past-in-word c =
       ap₂ (λ (n m : ℕ). n * s % m) (sym (div-add-mod' c (32 / s))) (sym whole)
@@ -214,7 +213,7 @@ cut-pixel f l memory base c x v e e′ =
     ∙ ap (λ (i : ℕ). inOrder (f .bswp) (f .hwswp) (getD memory (base + i) 0))
     (word-of-bit (f .bits) (l .some) (bits-fill f l) c))
 
--- where none are stored they are 0
+-- in a mode that stores no bits they are 0
 pub none-stored-bits : (f : Format) (memory : List ℕ) (base c : ℕ) → f .bits ≡ 0
     → 0 ≡ storedPixel (f .bits) (f .bswp) (f .hwswp) memory base c
 none-stored-bits f memory base c e =
@@ -257,11 +256,11 @@ module _ (s : ℕ) (pos : 0 < s) (fill : s * (32 / s) ≡ 32) (c : ℕ) where
       go zero z = refl
       go (suc n) z = absurd (omega (arith, add-mul 1 n s, z))
 
-  -- pixels past the last word's begin
+  -- pixels from the start of a column's word to the column
   pub past-word : c * s % 32 / s ≡ c % (32 / s)
   past-word = ap (λ (n : ℕ). n / s) (past-in-word s pos fill c) ∙ mul-div-cancel (c % (32 / s)) pos
 
-  -- and those left to the next
+  -- and from there to the next word
   pub left-in-word : (c + (32 - c * s % 32) / s) % (32 / s) ≡ 0
   left-in-word =
       ap (λ (n : ℕ). (c + n) % (32 / s)) left
@@ -304,7 +303,7 @@ from-word s pos bswp hwswp memory base a j e =
     past : (a + j) % (32 / s) ≡ j % (32 / s)
     past = ap (λ (n : ℕ). n % (32 / s)) whole-words ∙ add-mul-mod-self-right j (a / (32 / s)) (32 / s)
 
--- so many of the words that n pixels fill, and the pixels past them
+-- some of the words that n pixels fill, and the pixels past them
 module _ (s : ℕ) (pos : 0 < s) (fill : s * (32 / s) ≡ 32) (n words : ℕ) (some : words ≤ n * s / 32) where
   pub word-bits-le : words * 32 ≤ n * s
   word-bits-le = omega (arith, some)
@@ -378,7 +377,7 @@ module _ (f : Format) (l : Legal f) (table memory : List ℕ) (from s : ℕ) (e 
         ap (cut24 (f .bpp24bl)) (same-pixel j false false (no-bytes f l (omega arith)) (no-halves f l (λ y. omega arith)))
         ∙ sym (shown-at-32 f (λ v. getD table v 0) (storedPixel (f .bits) (f .bswp) (f .hwswp) memory from j) (e ∙ z)))
 
--- what an arm asks
+-- what an arm requires
 pub fits-size : (f : Format) (s n at : ℕ) (out : List ℕ) → f .bits ≡ s → 0 < s → s * (32 / s) ≡ 32
     → at + n * (32 / f .bits) ≤ length out → Fits s n at out
 fits-size f s n at out e pos fill room = record { some = pos; whole = fill; room = rw e at room }

@@ -1,4 +1,4 @@
--- What an accepted drawing's judgement says of the rows in memory and of the slice that is drawn to (document 01, "Numbers of refusal").
+-- What an accepted drawing's judgement (§9.3) says of the rows in memory and of the slice that is drawn to.
 use mathlib.Core.Bool.{Bool, false, not, _||_}
 use mathlib.Core.List.{[], _∷_}
 use mathlib.Core.Path.{_≡_, sym, ap, _∙_, subst}
@@ -23,7 +23,7 @@ use Rattle.drawing.specs.Core.{perWord, ByRows}
 use Rattle.drawing.specs.Drawing.{paletteWrong, rowOutside, pixels, colourTail, drawingCases, judgeDrawing, judgeRow, judgePicture}
 use Rattle.drawing.proofs.Formats.{bits-fill, per-word-pos, legal-format}
 
--- it is long enough
+-- that slice is long enough
 room-judged : (s : Screen) (lent entries room needed : ℕ) → judgeDrawing s lent entries (tooShort room needed) ≡ 0 → needed ≤ room
 unfolding judgeDrawing tooShort
 room-judged s lent entries room needed e =
@@ -93,7 +93,7 @@ module _ (s : Screen) (lent : ℕ) (e : lowest (memoryCases s lent) ≡ 0) where
             );
       }
 
--- so do a drawing's judgements
+-- an accepted drawing has passed 1 to 8
 screen-judged : (s : Screen) (lent entries : ℕ) (short : Bool) → judgeDrawing s lent entries short ≡ 0 → lowest (memoryCases s lent) ≡ 0
 unfolding judgeDrawing
 screen-judged s lent entries short e = both-pass (memoryCases s lent) (colourTail (s .words) entries short) tt tt e .0

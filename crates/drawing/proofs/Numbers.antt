@@ -1,4 +1,4 @@
--- What is drawn by the format and a row's first word, and by a pixel's number in reading order (document 01, "Colours").
+-- What is drawn by the format and a row's first word, and by a pixel's number in reading order (§5.6).
 use mathlib.Core.List.{List}
 use mathlib.Core.Path.{_≡_, sym, ap, ap₂, _∙_}
 use Prim.Native.Nat.{ℕ, _/_, _%_}
@@ -25,7 +25,7 @@ module _ (s : Screen) (l : Lent) (r : ℕ) (f : Format) (base : ℕ) (is-format 
       d
       ∙ stores-as (rowColour f (indexed f (l .palette)) (l .memory) base) (colour s l r) 0 n (width (s .words)) row e (λ i h. colour-is i)
 
--- the colour of the pixel with a number in reading order
+-- the colour of a pixel by its number in reading order
 pub in-order : (s : Screen) (l : Lent) (i r c : ℕ) → i / width (s .words) ≡ r → i % width (s .words) ≡ c
     → colour s l r c ≡ colourInOrder s l i
 unfolding colourInOrder

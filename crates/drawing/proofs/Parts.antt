@@ -1,5 +1,4 @@
--- Pixels that fill whole words of a row, and a stretch of the picture in three parts (document 01, "Where a pixel lies"). Assumes
--- nothing.
+-- Pixels that fill whole words of a row (§4.1), and a stretch of the picture in three parts (§5.7).
 use mathlib.Core.Bool.{false}
 use mathlib.Core.List.{List}
 use mathlib.Core.Path.{_≡_, sym, ap, _∙_, subst}
@@ -23,7 +22,7 @@ use Rattle.drawing.proofs.Formats.{bits-le, bits-fill, per-word-pos, wo
 
 -- ---- columns
 
--- what whole words from one on show
+-- what whole words from `from` on show
 abbrev pub wordsShown : Format → List ℕ → List ℕ → ℕ → ℕ → ℕ
 wordsShown f table memory from j = shown f (λ v. getD table v 0) (storedPixel (f .bits) (f .bswp) (f .hwswp) memory from j)
 
@@ -67,7 +66,7 @@ dvd-min q a b d e = go (decLt a b)
     go (yes h) = subst (λ (k : ℕ). q ∣ k) (omega arith) d
     go (no h) = subst (λ (k : ℕ). q ∣ k) (omega arith) e
 
--- words before a column and words after it, of a row of so many pixels
+-- two parts of a row have no more words than the row
 words-add : (q a b wide : ℕ) → 0 < q → q ∣ a → q ∣ b → q ∣ wide → a + b ≤ wide → a / q + b / q ≤ wide / q
 words-add q a b wide pos d e w h =
     le-of-mul-le-mul-right {m = a / q + b / q} {n = wide / q} {k = q}
@@ -95,13 +94,13 @@ module _ (s : Screen) (lent : ℕ) (rows : ByRows s lent) where
 
 -- ---- a stretch
 
--- where it goes on by rows: t pixels on from one in this column, a word begins
+-- its rows begin with a word: t pixels after pixel `first` one begins
 pub word-begins : (q wide first t : ℕ) → q ∣ wide → (first % wide + t) % q ≡ 0 → q ∣ first + t
 word-begins q wide first t w e =
     subst (λ (k : ℕ). q ∣ k) (omega (arith, div-add-mod' first wide))
     (dvd-add q (dvd-mul-left-of-dvd q w (first / wide)) (dvd-of-mod-eq-zero q e))
 
--- what is left without the pixels past the last word
+-- without the pixels past the last whole word, what is left fills words
 pub words-left : (q n : ℕ) → q ∣ n - n % q
 words-left q n = subst (λ (k : ℕ). q ∣ k) (omega (arith, div-add-mod' n q)) (dvd-mul-left-of-dvd q (dvd-refl q) (n / q))
 

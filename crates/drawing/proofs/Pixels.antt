@@ -1,4 +1,4 @@
--- Pixels of a row, word by word (document 01, "Where a pixel lies").
+-- Pixels of a row, word by word (§4.1).
 use mathlib.Core.Bool.{Bool, true, false, not, cond}
 use mathlib.Core.List.{List}
 use mathlib.Core.Path.{_≡_, sym, ap, ap₂, _∙_}

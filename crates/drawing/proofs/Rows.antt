@@ -1,12 +1,11 @@
--- Reading order (document 01, "Colours": "one a pixel, row after row"): where a drawing that goes row by row stands, over plain
--- numbers.
+-- Reading order (§5.6): where a drawing that goes row by row stands, over plain numbers.
 use mathlib.Core.Path.{_≡_, ap, _∙_}
 use Prim.Native.Nat.{ℕ, min, _+_, _-_, _*_, _/_, _%_, _<_, _≤_}
 use native.Mathlib.Nat.{add-mul, div-add-mod', mod-lt, mul-comm, div-lt-iff-lt-mul, lt-of-mul-lt-mul-right, div-le-of-le-mul}
 use native.Mathlib.Omega.{arith}
 use lib.Arith.{digits-div, digits-mod}
 
--- of `count` pixels from number `first` on, of a panel of `wide` by `high`, so many are done; the next stands in this row and column
+-- of `count` pixels from number `first` on, on a panel of `wide` by `high`, `done` are drawn; the next is in this row and column
 pub record Standing (wide high first count done row column : ℕ) : Type 0 where
   pub upto : done ≤ count
   pub column-lt : column < wide

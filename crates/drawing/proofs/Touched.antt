@@ -1,5 +1,5 @@
--- What a pixel's colour reads: one word of its row, and at most one entry of the palette. Memories and palettes that agree there
--- give the same colour, whatever else they hold.
+-- What a pixel's colour (§5.5) reads: one word of its row, and at most one entry of the palette. Memories and palettes that agree
+-- there give the same colour, whatever else they hold.
 use mathlib.Core.Bool.{cond}
 use mathlib.Core.List.{List}
 use mathlib.Core.Path.{_≡_, ap, _∙_}

@@ -1,5 +1,5 @@
--- The colour of a pixel (document 01, "Where a pixel lies" and "Colours"): the one definition that every drawing cites. It is total:
--- a word or an entry that is not lent counts as 0. Promises cite it, so a reader must believe it.
+-- The colour of a pixel (§5.5, with §4.1 and §5.4): the one definition that every drawing cites. It is total: a word or an entry that
+-- is not lent counts as 0. Promises cite it, so a reader must believe it.
 use mathlib.Core.Bool.{Bool, cond}
 use mathlib.Core.List.{List}
 use Prim.Native.Nat.{ℕ, _+_, _/_, _%_}
@@ -11,7 +11,7 @@ use Rattle.pixels.specs.declared.format.Format.{Format}
 use Rattle.memory.specs.Memory.{firstWord}
 use Rattle.memory.specs.declared.Screen.{Screen}
 
--- the memory and the palette lent to a call
+-- the memory (§3.1) and the palette (§5.1) lent to a call
 pub record Lent : Type 0 where
   pub memory : List ℕ
   pub palette : List ℕ
@@ -19,17 +19,17 @@ pub record Lent : Type 0 where
 abbrev pub lending : List ℕ → List ℕ → Lent
 lending memory palette = record { memory = memory; palette = palette }
 
--- the stored bits of pixel c of a row that begins with the memory's word `base`: a word holds 32 / s pixels
+-- the stored bits of pixel c of a row that begins with the memory's word `base` (§4.1): a word holds 32 / s pixels
 unfoldable pub storedPixel : ℕ → Bool → Bool → List ℕ → ℕ → ℕ → ℕ
 storedPixel s bswp hwswp memory base c =
     pixelBits s (inOrder bswp hwswp (getD memory (base + c / (32 / s)) 0)) (c % (32 / s))
 
--- its colour, given the colour of each index: "If TPALEN is 1, every pixel is TPALVAL"
+-- its colour, given the colour of each index (§5.5): TPALVAL where TPALEN is set (§5.4), else what the stored bits show
 unfoldable pub rowColour : Format → (ℕ → ℕ) → List ℕ → ℕ → ℕ → ℕ
 rowColour f colours memory base c =
     cond (f .tpalen) (f .tpalval) (shown f colours (storedPixel (f .bits) (f .bswp) (f .hwswp) memory base c))
 
--- the colour of the pixel in row r, column c
+-- the colour of the pixel in row r, column c (§5.5)
 unfoldable pub colour : Screen → Lent → ℕ → ℕ → ℕ
 colour s l r c =
     rowColour (format (s .words)) (indexed (format (s .words)) (l .palette)) (l .memory) (firstWord s r) c

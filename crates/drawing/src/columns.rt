@@ -1,5 +1,5 @@
-// Pixels of a row to the entries of a slice, in whole words: the one core of all drawing. It reads the memory and the table of colours
-// alone.
+// Pixels of a row to the entries of a slice, in whole words: the core of row and picture drawing (§5.6). It reads the memory and the
+// table of colours only.
 ghost use mathlib.Core.Bool.{true};
 ghost use mathlib.Core.Path.{_≡_};
 ghost use Prim.Native.Nat.{min, _+_, _-_, _≤_};
@@ -9,7 +9,7 @@ ghost use Rattle.drawing.specs.Core.{Sized, Legal, Columns, columnsStore
 use super::words::draw_words;
 use pixels::format::Format;
 
-// Pixels are stored, and the swaps are the mode's.
+// The mode stores pixels, and the swaps are legal for it (§4.4).
 pub(crate) fn legal(f: Format) -> bool
     requires { ⌜ Sized f ⌝ }
     ensures { λ r. ⌜ (r ≡ true → Legal f) ⌝ }
@@ -36,7 +36,7 @@ pub(crate) fn least(a: usize, b: usize) -> usize
     if a < b { a } else { b }
 }
 
-// How far a number lies beyond another, 0 where it does not.
+// By how much a exceeds b, 0 where it does not.
 pub(crate) fn beyond(a: usize, b: usize) -> usize
     ensures { λ r. ⌜ r ≡ a - b ⌝ }
 {
@@ -46,7 +46,7 @@ pub(crate) fn beyond(a: usize, b: usize) -> usize
     a - b
 }
 
-// n pixels of a row from a column on, both at a word's begin, to the entries from `at` on.
+// n pixels of a row from a column on, to the entries from `at` on. The column begins a word, and the pixels fill whole words.
 pub(crate) fn draw_columns(
     f: Format,
     video: &[u32],

@@ -1,5 +1,5 @@
-// The screen as the words, the palette and the lent video memory give it (document 01, "Where a pixel lies", "Colours", "Numbers
-// of refusal"): one pixel, a row, the picture, a stretch of it.
+// Drawing what the words, the palette and the lent video memory show: one pixel, a row, the picture (§5.6), a stretch of it (§5.7), and
+// their refusals (§9.3).
 mod columns;
 pub mod picture;
 pub mod pixel;

@@ -1,4 +1,4 @@
-// The picture, and a stretch of it.
+// The picture (§5.6), and a stretch of it (§5.7).
 ghost use mathlib.Core.Bool.{true};
 ghost use mathlib.Core.Path.{_≡_};
 ghost use Prim.Native.Nat.{_+_, _-_, _*_, _/_, _%_, _<_, _≤_};
@@ -21,7 +21,7 @@ use panel::geometry::width;
 use pixels::format::format_of;
 use registers::Words;
 
-// Pixels of the panel.
+// Pixels of the panel: W × H (§2.1).
 pub fn pixels_of(w: Words) -> u32
     ensures { λ r. ⌜ r ≡ pixels w ⌝ }
     ensures { λ r. ⌜ r ≤ 2048 * 1024 ⌝ }
@@ -29,8 +29,8 @@ pub fn pixels_of(w: Words) -> u32
     width(w) * height(w)
 }
 
-// The pixels with the numbers first to before first + count, in reading order, to the same entries: a row a turn, the first and
-// the last perhaps in part.
+// The `count` pixels from number `first` on, in reading order, to the entries with the same numbers: a row a turn, the first and the
+// last perhaps in part.
 fn draw_rows(
     s: Screen,
     video: &[u32],
@@ -59,7 +59,7 @@ fn draw_rows(
     }
 }
 
-// The same for few pixels: one by one, without the table of colours. So few that a division each costs less than the table.
+// The same pixel by pixel, without the table of colours. For few pixels a division each costs less than the table.
 fn draw_few(
     s: Screen,
     video: &[u32],
@@ -81,15 +81,15 @@ fn draw_few(
     }
 }
 
-// 1 to 8, 9, 10, and 0 where none applies: so many words of memory, entries of the palette and entries for the picture are lent.
+// Judges the picture: 1 to 8, 9, 10, or 0 (§9.3). `lent` words of memory, `entries` of the palette and `room` for the picture are lent.
 fn judge_picture(s: Screen, lent: usize, entries: usize, room: usize) -> u32
     ensures { λ r. ⌜ r ≡ judgePicture s lent entries room ⌝ }
 {
     judge_drawing(s, lent, entries, room < pixels_of(s.words) as usize)
 }
 
-// Draws the picture to the first W x H entries of the lent picture, row after row; the others stay. 0, or the number of the
-// refusal: 1 to 8, 9, 10 for a palette that has not 256 entries or a picture shorter than W x H. A refusal changes nothing.
+// Draws the picture to the first W × H entries of `picture`, in reading order; the others stay (§5.6). Gives 0, or the number of the
+// refusal: 1 to 8, 9, 10 for a palette not of 256 entries or a `picture` of fewer than W × H; then nothing is written.
 pub fn draw_picture(s: Screen, video: &[u32], palette: &[u16], picture: &mut [u32]) -> u32
     ensures { λ r. ⌜ leaves r (now (picture .exit)) ≡ drawPicture s (lending (now (video .entry)) (now (palette .entry))) (now (picture .entry)) ⌝ }
 {
@@ -101,7 +101,7 @@ pub fn draw_picture(s: Screen, video: &[u32], palette: &[u16], picture: &mut [u3
     0
 }
 
-// Rows begin with a word, and each lies in so many words of memory. It is enough to look at the last.
+// Rows fill whole words, and each lies inside `lent` words of memory. It is enough to look at the last.
 fn by_rows(s: Screen, lent: usize) -> bool
     ensures { λ r. ⌜ (r ≡ true → ByRows s lent) ⌝ }
 {
@@ -111,7 +111,7 @@ fn by_rows(s: Screen, lent: usize) -> bool
     legal(f) & (bits % 32 == 0) & (last + bits / 32 <= lent)
 }
 
-// Pixels from a column to the next that begins a word; no division where that is the column itself.
+// Pixels from a column to the next one that begins a word. There is no division where that is the column itself.
 fn to_next_word(bits: usize, column: usize) -> usize
     requires { ⌜ (0 < bits) × (bits * (32 / bits) ≡ 32) × (column ≤ 2048) ⌝ }
     ensures { λ r. ⌜ (column + r) % (32 / bits) ≡ 0 ⌝ }
@@ -124,7 +124,7 @@ fn to_next_word(bits: usize, column: usize) -> usize
     (32 - bit) / bits
 }
 
-// The same in three parts: single pixels up to the next word, rows, and the rest singly.
+// As `draw_rows`, from any pixel on, in three parts: single pixels up to the next word, rows, and single pixels again.
 fn draw_parts(
     s: Screen,
     video: &[u32],
@@ -146,9 +146,9 @@ fn draw_parts(
     draw_few(s, video, palette, first + (count - tail), tail, picture);
 }
 
-// Draws the pixels with the numbers first to before first + count, in reading order, to the same entries of the lent picture, as
-// far as the panel has them and the picture has the entries; the others stay. Nothing is judged. By rows; by single pixels where they
-// are few, since a table costs as much as some eight, or where rows do not lie in the memory word by word.
+// Draws the `count` pixels from number `first` on, in reading order, to the entries of `picture` with the same numbers, as far as the
+// panel and the picture go; the others stay (§5.7). Nothing is judged. Draws by rows; pixel by pixel where they are few, since the
+// table costs as much as some eight of them, or where rows do not lie in the memory in whole words.
 pub fn draw_stretch(
     s: Screen,
     video: &[u32],

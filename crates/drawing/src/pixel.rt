@@ -1,4 +1,4 @@
-// One pixel.
+// One pixel (§5.5, §5.6).
 ghost use mathlib.Core.Path.{_≡_};
 ghost use Prim.Native.Nat.{_^_, _<_};
 ghost use lib.ListN.{getD};
@@ -35,7 +35,7 @@ fn word_at(video: &[u32], place: usize) -> u32
     0
 }
 
-// The stored bits of a pixel of the row that begins with the memory's word `base`; 0 where the mode stores none.
+// The stored bits of a pixel in the row that begins with the memory's word `base` (§4.1); 0 where the mode stores none.
 fn stored_at(f: Format, video: &[u32], base: usize, column: usize) -> u32
     requires { ⌜ Sized f × (base < 2 ^ 44) × (column < 2 ^ 32) ⌝ }
     ensures { λ r. ⌜ r ≡ storedPixel (f .bits) (f .bswp) (f .hwswp) (now (video .entry)) base column ⌝ }
@@ -49,7 +49,7 @@ fn stored_at(f: Format, video: &[u32], base: usize, column: usize) -> u32
     bits_past(x, (bit % 32) as u32, bits)
 }
 
-// What the stored bits of a pixel show, by the palette.
+// What the stored bits of a pixel show, by the palette (§5.5).
 fn show_indexed(f: Format, palette: &[u16], v: u32) -> u32
     ensures { λ r. ⌜ r ≡ shown f (indexed f (now (palette .entry))) v ⌝ }
 {
@@ -64,8 +64,7 @@ fn show_indexed(f: Format, palette: &[u16], v: u32) -> u32
     expand(entry_at(palette, v as usize), expansion)
 }
 
-// The colour of the pixel in a row and column, whatever is given and lent: nothing is judged, and a word or an entry that is not
-// lent counts as 0.
+// The colour of the pixel in a row and column (§5.5). Nothing is judged, and a word or an entry that is not lent counts as 0.
 pub fn pixel_colour(s: Screen, video: &[u32], palette: &[u16], row: u32, column: u32) -> u32
     ensures { λ r. ⌜ r ≡ colour s (lending (now (video .entry)) (now (palette .entry))) row column ⌝ }
 {
@@ -77,8 +76,8 @@ pub fn pixel_colour(s: Screen, video: &[u32], palette: &[u16], row: u32, column:
     show_indexed(f, palette, v)
 }
 
-// 1 to 8, 9, 10, 11, and 0 where none applies: so many words of memory and entries of the palette are lent, and a slice for the
-// colour that may be too short.
+// Judges one pixel: 1 to 8, 9, 10, 11, or 0 (§9.3). `lent` words of memory and `entries` of the palette are lent; `short` where a slice
+// for the colour is too short.
 pub fn judge_pixel(
     s: Screen,
     lent: usize,
@@ -94,8 +93,8 @@ pub fn judge_pixel(
     and_where(to_10, outside, 11)
 }
 
-// The colour of the pixel in a row and column, or the number of the refusal: 1 to 8, 9, 10 for a palette that has not 256
-// entries, 11 for a row or column outside the panel.
+// Draws one pixel (§5.6): its colour, or the number of the refusal: 1 to 8, 9, 10 for a palette not of 256 entries, 11 for a row or
+// column outside the panel.
 pub fn draw_pixel(s: Screen, video: &[u32], palette: &[u16], row: u32, column: u32) -> Drawn
     ensures { λ r. ⌜ drawnPixel r ≡ drawPixel s (lending (now (video .entry)) (now (palette .entry))) row column ⌝ }
 {

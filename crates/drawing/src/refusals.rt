@@ -1,4 +1,4 @@
-// What every drawing is judged by.
+// What every drawing is judged by (§9.3).
 ghost use mathlib.Core.Path.{_≡_};
 ghost use Rattle.drawing.specs.Drawing.{paletteWrong, judgeDrawing};
 use memory::Screen;
@@ -6,15 +6,15 @@ use memory::judge_memory;
 use panel::refusals::and_where;
 use panel::refusals::video_off;
 
-// 10: the palette has not 256 entries.
+// 10 (§5.1): the palette does not have 256 entries.
 pub fn palette_wrong(entries: usize) -> bool
     ensures { λ r. ⌜ r ≡ paletteWrong entries ⌝ }
 {
     entries != 256
 }
 
-// 1 to 8, 9, 10, and 0 where none applies: so many words of memory and entries of the palette are lent, and another slice that
-// may be too short.
+// Judges a drawing: 1 to 8, 9, 10, or 0. `lent` words of memory and `entries` of the palette are lent; `short` where another slice is
+// too short.
 pub fn judge_drawing(s: Screen, lent: usize, entries: usize, short: bool) -> u32
     ensures { λ r. ⌜ r ≡ judgeDrawing s lent entries short ⌝ }
 {

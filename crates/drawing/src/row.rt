@@ -1,4 +1,4 @@
-// One row.
+// One row (§5.6).
 ghost use mathlib.Core.Path.{_≡_};
 ghost use Prim.Native.Nat.{_≤_};
 ghost use lib.ListN.{length};
@@ -34,7 +34,7 @@ fn draw_from(f: Format, video: &[u32], base: usize, palette: &[u16], n: usize, o
     }
 }
 
-// 1 to 8, 9, 10, 11, and 0 where none applies: so many words of memory, entries of the palette and entries for the row are lent.
+// Judges a row: 1 to 8, 9, 10, 11, or 0 (§9.3). `lent` words of memory, `entries` of the palette and `room` for the row are lent.
 fn judge_row(s: Screen, lent: usize, entries: usize, row: u32, room: usize) -> u32
     ensures { λ r. ⌜ r ≡ judgeRow s lent entries row room ⌝ }
 {
@@ -42,8 +42,8 @@ fn judge_row(s: Screen, lent: usize, entries: usize, row: u32, room: usize) -> u
     and_where(to_10, height(s.words) <= row, 11)
 }
 
-// Draws a row to the first W entries of the lent row; the others stay. 0, or the number of the refusal: 1 to 8, 9, 10 for a
-// palette that has not 256 entries or a lent row shorter than W, 11 for a row outside the panel. A refusal changes nothing.
+// Draws a row to the first W entries of `out`; the others stay (§5.6). Gives 0, or the number of the refusal: 1 to 8, 9, 10 for a
+// palette not of 256 entries or an `out` of fewer than W, 11 for a row outside the panel; then nothing is written.
 pub fn draw_row(s: Screen, video: &[u32], palette: &[u16], row: u32, out: &mut [u32]) -> u32
     ensures { λ r. ⌜ leaves r (now (out .exit)) ≡ drawRow s (lending (now (video .entry)) (now (palette .entry))) row (now (out .entry)) ⌝ }
 {

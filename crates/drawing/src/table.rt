@@ -1,4 +1,4 @@
-// The colours of all indices, expanded once.
+// The colours of all indices (§5.1), expanded once.
 ghost use mathlib.Core.Bool.{true, false};
 ghost use mathlib.Core.Path.{_≡_};
 ghost use Prim.Native.Nat.{_^_, _<_, _≤_};
@@ -40,7 +40,7 @@ pub(crate) fn looked_up(f: Format) -> bool
     (f.bits <= 8) & !f.tpalen
 }
 
-// How many colours a pixel's bits can name; none where nothing is looked up.
+// How many indices a pixel's bits can be; 0 where nothing is looked up.
 fn indices(f: Format) -> usize
     ensures { λ r. ⌜ (f .tpalen ≡ false → f .bits ≤ 8 → r ≡ 2 ^ f .bits) × (r ≤ 256) ⌝ }
 {
@@ -50,7 +50,7 @@ fn indices(f: Format) -> usize
     0
 }
 
-// The colour of each index to a table that is black at first, where pixels are looked up.
+// The colour of each index to a table of zeros; none where nothing is looked up. An index that has no palette entry stays 0.
 pub(crate) fn fill_table(f: Format, palette: &[u16], table: &mut [u32])
     requires { ⌜ now table ≡ replicate 256 0 ⌝ }
     ensures { λ _. ⌜ Expanded f (now (palette .entry)) (now (table .exit)) ⌝ }

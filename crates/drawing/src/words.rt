@@ -37,7 +37,7 @@ fn look_up_word(x: u32, s: u32, table: &[u32], at: usize, out: &mut [u32])
     }
 }
 
-// n words from one on, at s bits a pixel.
+// n words from `from` on, at s bits a pixel, through the table of colours.
 fn look_up_words(
     video: &[u32],
     from: usize,
@@ -66,8 +66,8 @@ fn half(x: u32, upper: bool) -> u32
     if upper { x >> 16 } else { x & 0xffff }
 }
 
-// n words from one on, at 16 bits a pixel. The halves are exchanged in either case and then taken in the order that is due:
-// in that form the loop goes four words at a time.
+// n words from `from` on, at 16 bits a pixel. The halves are exchanged whether HWSWP is set or not, and then taken in the order that it
+// asks for: the compiler vectorises this form four words at a time.
 fn expand_words(
     video: &[u32],
     from: usize,
@@ -89,7 +89,7 @@ fn expand_words(
     }
 }
 
-// n words from one on, at 24 bits a pixel.
+// n words from `from` on, at 24 bits a pixel.
 fn cut_words(video: &[u32], from: usize, n: usize, bpp24bl: bool, at: usize, out: &mut [u32])
     requires { ⌜ Fits 32 n at (now out) × (n ≤ length (now video) - from) ⌝ }
     ensures { λ _. ⌜ now (out .exit) ≡ stores (λ j. cut24 bpp24bl (storedPixel 32 false false (now (video .entry)) from j)) at (n * (32 / 32)) (now (out .entry)) ⌝ }
@@ -101,7 +101,7 @@ fn cut_words(video: &[u32], from: usize, n: usize, bpp24bl: bool, at: usize, out
     }
 }
 
-// n whole words from one on, by the format. The size is a literal in each arm, so that each has a loop of its own.
+// n whole words from `from` on, by the format. The size is a literal in each arm, so that each has a loop of its own.
 pub(crate) fn draw_words(
     f: Format,
     video: &[u32],

@@ -1,5 +1,5 @@
--- The two outcomes of a step in place: refused, the answer is the number and the state is as it was; accepted, the answer is the clock
--- and the state is the next one. And what lies there after a list of calls goes on as the claim of demand 3 folds it.
+-- The two outcomes of a step in place (§12.2): refused, the answer is the number and the state stays; accepted, the answer is the clock
+-- and the state is the next one. After a list of calls, the state in place is the one that the list's claim (§8) speaks of.
 use mathlib.Core.Path.{_≡_, refl, ap, ap₂}
 use Prim.Native.Nat.{ℕ}
 use Rattle.laws.specs.Answers.{accepted, refused, orElse}
@@ -21,7 +21,7 @@ module _ (s : State) (l : Lent) where
   unfolding stepInPlace next orElse
   accepted-moves k t e = ap₂ leaving (maps _ _ _ _ e refl) (ap (orElse (λ k. k .next) s) e)
 
--- the state that a list of calls leaves, stepped in place, is the state that the list leaves with that step more
+-- a step in place after a list of calls leaves the state that the list leaves with that step added
 pub one-step-more : (s : State) (cs : Calls) (l : Lent) → stepInPlace (final s cs) l .state ≡ final s (cs then aStep l)
 unfolding stepInPlace final
 one-step-more s cs l = refl

@@ -1,5 +1,5 @@
-// A step that changes a state where it lies (document 01, "The bench"): one thin function over the by-value step of `scanout`. Accepted,
-// the state is the next one and the answer is the clock; refused, the answer is the number and the state is as it was.
+// The step in place (§12.2): the step of `scanout`, on a state behind `&mut`. Accepted, the state becomes the next one and the answer
+// is the clock's levels; refused, the answer is the number and the state stays (§9.5).
 ghost use mathlib.Core.Path.{_≡_};
 ghost use Rattle.in_place.specs.Stepping.{clocked, placed, leaving, stepInPlace};
 ghost use Rattle.drawing.specs.Colour.{lending};
@@ -8,7 +8,7 @@ use scanout::step::Stepped;
 use scanout::step::step;
 use signals::clock::Clock;
 
-// The levels of the clock that a step took, or a refusal's number.
+// The levels of the clock that a step took, or the number of the refusal.
 pub enum Clocked {
     Levels(Clock),
     Refused(u32),
@@ -20,7 +20,7 @@ pub struct Placed {
     pub state: State,
 }
 
-// The by-value step: the state that it leaves is the next one, after a refusal the old one.
+// The step by value, with the state it leaves: the next one, or the old one where it is refused.
 fn step_and_state(old: State, video: &[u32], palette: &[u16]) -> Placed
     ensures { λ r. ⌜ placed r ≡ stepInPlace old (lending (now (video .entry)) (now (palette .entry))) ⌝ }
 {
@@ -36,7 +36,7 @@ fn step_and_state(old: State, video: &[u32], palette: &[u16]) -> Placed
     }
 }
 
-// Takes one clock of the state where it lies: the levels, or the number of the refusal, as `step` gives them.
+// Steps the state behind `s` by one clock: the levels, or the number of the refusal, as `step` gives them (§7.3).
 pub fn step_in_place(s: &mut State, video: &[u32], palette: &[u16]) -> Clocked
     ensures { λ r. ⌜ leaving (clocked r) (now (s .exit)) ≡ stepInPlace (now (s .entry)) (lending (now (video .entry)) (now (palette .entry))) ⌝ }
 {
@@ -45,8 +45,7 @@ pub fn step_in_place(s: &mut State, video: &[u32], palette: &[u16]) -> Clocked
     left.answer
 }
 
-// One step in place of a state that lies in a local here. No parameter is a reference to a state, so a caller's proof needs no walk by
-// hand.
+// One step in place of a state in a local. No parameter is a reference to a state, so a caller's proof needs no walk by hand.
 pub fn step_local(s: State, video: &[u32], palette: &[u16]) -> Placed
     ensures { λ r. ⌜ placed r ≡ stepInPlace s (lending (now (video .entry)) (now (palette .entry))) ⌝ }
 {

@@ -1,5 +1,6 @@
-// The C interface (document 01, "The bench"): a slice comes from C as a pointer and a length; host/lcd.h declares the calls. Each is
-// thin and asks the crate below. 0 is done, any other answer the number of the refusal, and then nothing lent is changed.
+// The C interface (§10): a slice comes from C as a pointer and a length (§10.1); host/lcd.h declares the calls. Each call is thin and
+// leaves the work to a crate below. It answers 0 when done, else the number of the refusal, and then nothing lent is changed (§9.5).
+// Its comment lists the refusals in the order in which they are judged (§9.3).
 ghost use mathlib.Core.Path.{_≡_};
 ghost use Rattle.drawing.specs.Colour.{lending};
 ghost use Rattle.laws.specs.Answers.{leaves};
@@ -18,7 +19,7 @@ pub mod pixel;
 pub mod reading;
 pub mod scan;
 
-// The check: 10 for a slice short of nine words, then 1 to 8.
+// The check of the words against the lent memory (§3.6). Refusals: 10 for `words` with fewer than nine entries, 1 to 8.
 #[no_mangle]
 pub extern "C" fn lcd_check(words: &[u32], window_start: u32, video: &[u32]) -> u32
     ensures { λ r. ⌜ r ≡ check (now (words .entry)) «window_start» (now (video .entry)) ⌝ }
@@ -26,8 +27,8 @@ pub extern "C" fn lcd_check(words: &[u32], window_start: u32, video: &[u32]) -> 
     check(words, window_start, video)
 }
 
-// The frame's clocks, its HCLK ticks and its rate in millihertz, to the first three entries of `counts`; the others stay. 10 for
-// a slice short of nine words, then 1 to 7, then 10 where `counts` has fewer than three entries.
+// The frame's clocks, its HCLK ticks and its rate in millihertz (§10.3) go to the first three entries of `counts`; the others stay.
+// Refusals: 10 for `words` with fewer than nine entries, 1 to 7, 10 for `counts` with fewer than three.
 #[no_mangle]
 pub extern "C" fn lcd_counts(words: &[u32], hclk: u32, counts: &mut [u64]) -> u32
     ensures { λ r. ⌜ leaves r (now (counts .exit)) ≡ readCounts (now (words .entry)) hclk (now (counts .entry)) ⌝ }
@@ -35,8 +36,8 @@ pub extern "C" fn lcd_counts(words: &[u32], hclk: u32, counts: &mut [u64]) -> u3
     read_counts(words, hclk, counts)
 }
 
-// One row to the first W entries of `out`; the others stay. 10 for a slice short of nine words, then 1 to 9, 10 for a palette
-// that has not 256 entries or a row shorter than W, 11 for a row outside the panel.
+// One row goes to the first W entries of `out`; the others stay (§5.6). Refusals: 10 for `words` with fewer than nine entries, 1 to 9,
+// 10 for a palette not of 256 entries or an `out` of fewer than W, 11 for a row outside the panel.
 #[no_mangle]
 pub extern "C" fn lcd_draw_row(
     words: &[u32],
@@ -60,8 +61,8 @@ pub extern "C" fn lcd_draw_row(
     }
 }
 
-// The picture to the first W x H entries of `picture`, row after row; the others stay. 10 for a slice short of nine words, then
-// 1 to 9, 10 for a palette that has not 256 entries or a picture shorter than W x H.
+// The picture goes to the first W × H entries of `picture`, row by row; the others stay (§5.6). Refusals: 10 for `words` with fewer
+// than nine entries, 1 to 9, 10 for a palette not of 256 entries or a `picture` of fewer than W × H.
 #[no_mangle]
 pub extern "C" fn lcd_draw_picture(
     words: &[u32],

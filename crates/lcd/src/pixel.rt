@@ -1,4 +1,4 @@
-// One pixel for C (document 01, "Where a pixel lies").
+// One pixel for C (§5.6).
 ghost use mathlib.Core.Path.{_≡_};
 ghost use Rattle.drawing.specs.Colour.{lending};
 ghost use Rattle.laws.specs.Answers.{leaves};
@@ -27,8 +27,8 @@ fn draw_pixel_in(
     0
 }
 
-// One pixel's colour to the first entry of `out`; the others stay. 10 for a slice short of nine words, then 1 to 9, 10 for a palette
-// that has not 256 entries or an `out` with no entry, 11 for a row or column outside the panel.
+// One pixel's colour goes to the first entry of `out`; the others stay. Refusals: 10 for `words` with fewer than nine entries, 1 to 9,
+// 10 for a palette not of 256 entries or an `out` with no entry, 11 for a row or column outside the panel.
 #[no_mangle]
 pub extern "C" fn lcd_draw_pixel(
     words: &[u32],

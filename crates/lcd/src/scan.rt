@@ -1,4 +1,4 @@
-// The scan for C (document 01, "Clocks and lines"): its state is a lent slice of 13 entries. Each call asks the crate `scans`.
+// The scan for C (§10.4): its state is a lent slice of 13 entries. The crate `scans` does the work.
 ghost use mathlib.Core.Path.{_≡_};
 ghost use Rattle.laws.specs.Answers.{leaves};
 ghost use Rattle.scans.specs.Scan.{startScan, stepLeaves, stepScan, runLeaves, runScan, changeScan};
@@ -7,7 +7,8 @@ use scans::run_scan;
 use scans::start_scan;
 use scans::step_scan;
 
-// Starts a scan: its state to `scan`. 10 for a slice short of nine words, then 1 to 8, 9, 10 where `scan` has fewer than 13 entries.
+// Starts a scan (§7.2) and stores its state in `scan`. Refusals: 10 for `words` with fewer than nine entries, 1 to 8, 9, 10 for `scan`
+// with fewer than 13.
 #[no_mangle]
 pub extern "C" fn lcd_start(
     words: &[u32],
@@ -20,9 +21,9 @@ pub extern "C" fn lcd_start(
     start_scan(words, window_start, video, scan)
 }
 
-// One clock: the next state to `scan`; VSYNC, HSYNC, VDEN and VD to entries 0 to 3 of `clock`. 10 where `scan` has fewer than 13
-// entries, then 1 to 8 of the viewport in force and of the pending one, 9, 10 for a palette that has not 256 entries or a `clock` of
-// fewer than 4, 13, 15.
+// Steps one clock (§7.3): the next state goes to `scan`, VSYNC, HSYNC, VDEN and VD to entries 0 to 3 of `clock`. Refusals: 10 for
+// `scan` with fewer than 13 entries, 1 to 8 over the viewport in force and the pending one, 9, 10 for a palette not of 256 entries or
+// a `clock` of fewer than 4, 13, 15.
 #[no_mangle]
 pub extern "C" fn lcd_step(
     scan: &mut [u32],
@@ -35,9 +36,10 @@ pub extern "C" fn lcd_step(
     step_scan(scan, video, palette, clock)
 }
 
-// Up to a number of clocks, to the frame's end at most: the next state to `scan`, how many it took to entry 0 of `taken`, and the
-// colours of its active clocks to their entries of `picture`. 10 where `scan` has fewer than 13 entries, then 1 to 8 of the viewport in
-// force and of the pending one, 9, 10 for a palette that has not 256 entries, a picture shorter than W x H or an empty `taken`, 13, 15.
+// Runs up to `clocks` clocks, to the end of the frame at most (§7.4): the next state goes to `scan`, the count of clocks taken to
+// entry 0 of `taken`, the colour of each pixel scanned to its entry of `picture`. Refusals: 10 for `scan` with fewer than 13 entries,
+// 1 to 8 over the viewport in force and the pending one, 9, 10 for a palette not of 256 entries, a `picture` of fewer than W × H
+// entries or an empty `taken`, 13, 15.
 #[no_mangle]
 pub extern "C" fn lcd_run(
     scan: &mut [u32],
@@ -52,8 +54,8 @@ pub extern "C" fn lcd_run(
     run_scan(scan, video, palette, clocks, picture, taken)
 }
 
-// Brings a new LCDSADDR1 and LCDSADDR2, which wait for the next frame. 10 where `scan` has fewer than 13 entries, then 1 to 8 of the
-// viewport in force, the pending one and the new one, 9, 13, 15.
+// Makes a new LCDSADDR1 and LCDSADDR2 the pending viewport (§7.5), in force from the next frame (§7.6). Refusals: 10 for `scan` with
+// fewer than 13 entries, 1 to 8 over the viewport in force, the pending one and the new one, 9, 13, 15.
 #[no_mangle]
 pub extern "C" fn lcd_change_viewport(
     scan: &mut [u32],

@@ -1,5 +1,5 @@
--- Worked examples of document 01 ("Where a pixel lies", "Colours", and T2 to T7 and T9 of "Both sides of the line"), tried on the
--- definitions. Their numbers are worked out by hand from the paper's sentences.
+-- Worked examples of pixel order (§4) and colours (§5), with T2 to T7 and T9 (§13.1), tried on the definitions. Their numbers are
+-- worked out by hand from the rules.
 use mathlib.Core.Bool.{Bool, true, false, _&&_}
 use mathlib.Core.List.{List, [], _∷_}
 use mathlib.Core.Path.{_≡_, refl}

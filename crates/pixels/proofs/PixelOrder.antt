@@ -1,4 +1,4 @@
--- Laws of pixel order (document 01, "Where a pixel lies"): pixels of a word, by shifts too, and words with a swap.
+-- Laws of pixel order (§4.1 to §4.3): pixels of a word, by shifts too, and words with a swap.
 use mathlib.Core.Bool.{Bool, true, false}
 use mathlib.Core.Path.{_≡_, sym, ap, ap₂, _∙_}
 use Prim.Native.Nat.{ℕ, _+_, _-_, _*_, _/_, _%_, _^_, _<_, _≤_}
@@ -25,7 +25,7 @@ up-and-down x s a b =
     ∙ ap (λ (y : ℕ). y % 2 ^ s) (sym (shr-shr (x * 2 ^ a) a b))
     ∙ ap (λ (y : ℕ). y / 2 ^ b % 2 ^ s) (shl-shr x a)
 
--- the s bits that lie below the `past` highest, by two shifts of the word: up, past what stands above them, and down to bit 0
+-- the s bits below the `past` highest, by two shifts of the word: up, to drop what stands above them, and down to bit 0
 pub cut-by-shifts : (s past x : ℕ) → past + s ≤ 32
     → (x * 2 ^ past) % 2 ^ 32 / 2 ^ (32 - s) ≡ x / 2 ^ (32 - (past + s)) % 2 ^ s
 cut-by-shifts s past x fits =

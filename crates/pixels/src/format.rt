@@ -1,11 +1,12 @@
-// What the words say about the meaning of a pixel's bits, read from them once.
+// How a pixel's bits are to be read, by the words: worked out once and then handed on.
 ghost use mathlib.Core.Path.{_≡_};
 ghost use Rattle.pixels.specs.Format.{expansionOf, format};
 use super::colours::Expansion;
 use panel::geometry::bits_of;
 use registers::Words;
 
-// Stored bits of a pixel, the two swaps, the place of 24 bits in a word, the expansion of 16 bits, the temporary palette.
+// Stored bits of a pixel (§2.2), the two swaps (§4.2, §4.3), the place of 24 bits in a word (§4.5), the expansion of 16 bits (§5.2,
+// §5.3), the temporary palette (§5.4).
 pub struct Format {
     pub bits: u32,
     pub bswp: bool,

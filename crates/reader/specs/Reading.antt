@@ -1,5 +1,4 @@
--- What a reader holds, and what a lookup gives (document 01, "The bench"): "a thin reader that keeps hold of the lent video words and
--- answers by row and column". Promises cite it, so a reader must believe it.
+-- What a reader holds, and what a lookup through it gives (§12.1). Promises cite it, so a reader must believe it.
 use mathlib.Core.List.{List}
 use Prim.Native.Nat.{ℕ}
 use denote.Ref.{RefT, now}
@@ -9,10 +8,10 @@ use Rattle.drawing.specs.Colour.{lending}
 use Rattle.drawing.specs.Drawing.{drawPixel}
 use Rattle.reader.specs.declared.Reader.{Reader}
 
--- "keeps hold of the lent video words": the reference itself, beside the words and the window start
+-- a reader holds the words, the window start and the reference to the lent memory (§12.1)
 abbrev pub readerOf : Screen → RefT (List ℕ) → Reader
 readerOf s video = record { screen = s; video = video }
 
--- "answers by row and column": what drawing this one pixel gives, with the palette lent to the lookup
+-- a lookup is the drawing of one pixel (§5.6), refusals included, with the palette lent to the lookup (§12.1)
 abbrev pub lookUp : Reader → List ℕ → ℕ → ℕ → Answer ℕ
 lookUp r palette row column = drawPixel (r .screen) (lending (now (r .video)) palette) row column

@@ -1,6 +1,5 @@
-// A thin reader of the screen (document 01, "The bench": "a thin reader that keeps hold of the lent video words and answers by row and
-// column"). It holds the lent memory, the words and the window start, so that a caller asks for one pixel after another and lends
-// the palette alone. It keeps nothing else and judges each lookup anew: `drawing` does the work.
+// A reader of single pixels (§12.1). It holds the lent memory, the words and the window start, so a caller asks for one pixel after
+// another and lends only the palette each time. It keeps nothing else and judges every lookup anew: `drawing` does the work.
 ghost use mathlib.Core.Path.{_≡_};
 ghost use Rattle.drawing.specs.Colour.{lending};
 ghost use Rattle.drawing.specs.Drawing.{drawnPixel, drawPixel};
@@ -9,21 +8,21 @@ use drawing::pixel::Drawn;
 use drawing::pixel::draw_pixel;
 use memory::Screen;
 
-// The words with the byte address of the lent memory, and that memory.
+// The words with their window start, and the lent memory.
 pub struct Reader<'a> {
     pub screen: Screen,
     pub video: &'a [u32],
 }
 
 impl<'a> Reader<'a> {
-    // A reader over a lent memory. Nothing is judged yet.
+    // A reader over lent memory. Nothing is judged yet.
     pub fn new(screen: Screen, video: &'a [u32]) -> Reader<'a>
         ensures { λ r. ⌜ r ≡ readerOf screen (video .entry) ⌝ }
     {
         Reader { screen, video }
     }
 
-    // The colour of the pixel in a row and column, or the number of the refusal, as `draw_pixel` gives them.
+    // The colour of the pixel in a row and column, or the number of the refusal, as `draw_pixel` gives it (§5.6).
     pub fn pixel(self, palette: &[u16], row: u32, column: u32) -> Drawn
         ensures { λ r. ⌜ drawnPixel r ≡ lookUp (self .entry) (now (palette .entry)) row column ⌝ }
     {
@@ -31,7 +30,7 @@ impl<'a> Reader<'a> {
     }
 }
 
-// One pixel through a reader that is made for it. No parameter is a reader, so a caller's proof needs no walk by hand.
+// One pixel through a reader made for it. No parameter is a reader, so a caller's proof needs no walk by hand.
 pub fn read_pixel(screen: Screen, video: &[u32], palette: &[u16], row: u32, column: u32) -> Drawn
     ensures { λ r. ⌜ drawnPixel r ≡ drawPixel screen (lending (now (video .entry)) (now (palette .entry))) row column ⌝ }
 {

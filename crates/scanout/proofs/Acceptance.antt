@@ -1,5 +1,5 @@
--- What an accepted step or run tells (document 01, "Numbers of refusal"): the next clock's view can be drawn from, the position lies
--- in the frame, and the state one clock on is accepted too.
+-- What it means that a step or run is accepted (§9.3): the next clock's viewport can be drawn from, the position lies in the frame, and
+-- the state one clock on is accepted too.
 use mathlib.Core.Bool.{Bool, false, not, _||_}
 use mathlib.Core.List.{List, [], _∷_}
 use mathlib.Core.Path.{_≡_, refl, ap, _∙_}
@@ -62,7 +62,7 @@ module _ (s : State) (lent entries : ℕ) (short : Bool) where
       (pass-joined (memoryCases (s .screen) lent) (viewportCases s (s .pending) lent) (p .current) (p .pending))
       (rw (p .on, p .slices, p .bank, lt-leb (frameOf s) (s .position) (p .inside)) refl)
 
--- what a run is judged by covers what a step is judged by
+-- a state that a run accepts, a step accepts
 pub as-step : (s : State) (lent entries : ℕ) (short : Bool) → Passed s lent entries short → Passed s lent entries false
 as-step s lent entries short p =
     record {
@@ -100,7 +100,7 @@ module _ (s : State) (lent entries : ℕ) (short : Bool) (p : Passed s lent entr
   pub short-passes : short ≡ false
   short-passes = or-false-right (paletteWrong entries) short (p .slices)
 
-  -- what a drawing from the next clock's words is judged by
+  -- a drawing from the next clock's words passes 1 to 10
   pub drawing-passes : (b : Bool) → b ≡ false → lowest (drawingCases (shownScreen s) lent entries b) ≡ 0
   unfolding lowest lower
   drawing-passes b f =
@@ -108,7 +108,7 @@ module _ (s : State) (lent entries : ℕ) (short : Bool) (p : Passed s lent entr
       (colourTail (shownWords s) entries b) shown-in-memory
       (rw (shown-on, palette-passes, f) refl)
 
-  -- one clock on, nothing of this has changed
+  -- one clock on, a step or run is accepted too
   pub advance-passes : Passed (advance s) lent entries short
   unfolding advance bankDiffers
   advance-passes =
@@ -133,7 +133,7 @@ module _ (s : State) (lent entries : ℕ) (short : Bool) (p : Passed s lent entr
           ∙ ap not (eq-eqb (lcdbank (withViewport (s .screen .words) (s .pending))) (lcdbank (withViewport (s .screen .words) (s .pending))) refl)
       go (no ne) = ap bank-of (shown-later s ne) ∙ p .bank
 
--- ---- drawing from it
+-- ---- drawing from them
 
 module _ (s : State) (l : Lent) (short : Bool) (p : Passed s (length (l .memory)) (length (l .palette)) short) where
   -- drawing one pixel gives its colour

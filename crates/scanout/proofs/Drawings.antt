@@ -1,4 +1,4 @@
--- What an accepted run draws by the stretch of `drawing` (document 01, "Clocks and lines").
+-- What an accepted run draws (§7.4) is a stretch of the picture, as `drawing` draws it (§5.7).
 use mathlib.Core.List.{List}
 use mathlib.Core.Path.{_≡_, sym, ap, _∙_}
 use Prim.Native.Nat.{ℕ, min, _+_, _-_, _≤_}

@@ -1,5 +1,5 @@
--- What one call does to the state (document 01, "Clocks and lines"): it takes so many clocks of the frame, none where it is refused, or
--- it brings a view that waits. A later kind of call is one more case here; the laws of lists never look into a call.
+-- What one call does to the state (§7.3 to §7.5): it takes some clocks of the frame, none where it is refused, or it brings a pending
+-- viewport. A further kind of call is one more case here; Fronts and Schedule never look into a call.
 use mathlib.Core.Bool.{false}
 use mathlib.Core.List.{List}
 use mathlib.Core.Path.{_≡_, refl, sym, ap, _∙_}

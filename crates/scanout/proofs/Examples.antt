@@ -1,5 +1,5 @@
--- The scan of T1's panel, clock by clock, and some clocks of T8's (document 01, "Clocks and lines"): the levels, the frame's length and the
--- formula stand in the claim and in the machine alike, so they are held against numbers worked out by hand here.
+-- The scan of T1's panel, clock by clock, and some clocks of T8's (§13.1). The claim and the calls share the definitions of the levels,
+-- the frame's length and the clock of a pixel, so these are held against numbers worked out by hand here.
 use mathlib.Core.List.{List, [], _∷_, _++_}
 use mathlib.Core.Path.{_≡_, refl}
 use Prim.Native.Nat.{ℕ, zero, suc}
@@ -40,7 +40,7 @@ unfoldable judgement : State → Lent → ℕ
 unfolding judgeStep judgeScan lowest lower reservedBit notTft noSuchMode outsideModes swapsIllegal storedBits rowSizeWrong
 judgement s l = judgeStep s l
 
--- with the view's place and what is lent
+-- with the viewport's place and what is lent
 unfoldable accepted-view : State → Lent → ℕ
 unfolding judgement endDiffers pastBank rowOffset outsideMemory wordOutside rowAddress someBelow videoOff paletteWrong bankDiffers pastFrame
 accepted-view s l = judgement s l
@@ -82,7 +82,7 @@ began lcdcon5 = begun (screen (nineWords (t1 lcdcon5)) 0x30000000)
 abbrev lent : Lent
 lent = record { memory = 0x00112233 ∷ 0x00AABBCC ∷ []; palette = replicate 256 0 }
 
--- VSYNC, HSYNC, VDEN and the data word of so many clocks
+-- VSYNC, HSYNC, VDEN and the data word: of one step, then of n steps in a row
 abbrev levels : Answer Shown → List ℕ
 levels (accepted k) = k .clock .vsync ∷ k .clock .hsync ∷ k .clock .vden ∷ k .clock .vd ∷ []
 levels (refused n) = []
@@ -96,7 +96,7 @@ abbrev line : ℕ → ℕ → ℕ → List ℕ
 line vsync vden vd =
     vsync ∷ 1 ∷ 0 ∷ 0 ∷ vsync ∷ 0 ∷ 0 ∷ 0 ∷ vsync ∷ 0 ∷ vden ∷ vd ∷ vsync ∷ 0 ∷ 0 ∷ 0 ∷ []
 
--- the same with HSYNC and VDEN exchanged and the data complemented
+-- the same with the levels of HSYNC and VDEN exchanged and the data complemented
 abbrev exchanged : ℕ → ℕ → ℕ → List ℕ
 exchanged vsync vden vd =
     vsync ∷ 0 ∷ 1 ∷ 0xFFFFFF ∷ vsync ∷ 1 ∷ 1 ∷ 0xFFFFFF ∷ vsync ∷ 1 ∷ vden ∷ vd ∷ vsync ∷ 1 ∷ 1 ∷ 0xFFFFFF ∷ []
@@ -123,7 +123,7 @@ pub t1-scan : T1Scan
 unfolding runs
 t1-scan = record { frame = refl; inverted = refl; whole = refl; front = refl; back = refl }
 
--- ---- the same panel with a third word of memory, and a viewport one row further on that comes in mid-frame
+-- ---- the same panel with a third word of memory, and a viewport one row further on, brought in mid-frame
 
 abbrev three : Lent
 three = record { memory = 0x00112233 ∷ 0x00AABBCC ∷ 0x00445566 ∷ []; palette = replicate 256 0 }
@@ -131,7 +131,7 @@ three = record { memory = 0x00112233 ∷ 0x00AABBCC ∷ 0x00445566 ∷ []; palet
 abbrev further : Viewport
 further = record { lcdsaddr1 = 0x18000002; lcdsaddr2 = 6 }
 
--- one picture lent to all runs; the last call asks for another bank
+-- one picture lent to all runs; the last call asks for a viewport in another bank, whose rows are not lent: 8 is lower than 13
 abbrev moving : Calls
 moving =
     nothing
@@ -144,7 +144,7 @@ moving =
 pub record T1Moved : Type 0 where
   pub first-view : frameViewport (began 0) moving 0 ≡ record { lcdsaddr1 = 0x18000000; lcdsaddr2 = 4 }
   pub second-view : frameViewport (began 0) moving 1 ≡ further
-  -- 5 clocks, the 15 that are left, and 11 of the next frame, the tenth of which, from 0, is the first pixel's
+  -- 5 clocks, the 15 that are left, and 11 of the next frame; its clock 10 is the first pixel's
   pub clocks-taken : taken (began 0) moving ≡ 31
   pub left : pictureLeft (began 0) (7 ∷ 8 ∷ []) moving ≡ 0xAABBCC ∷ 0xAABBCC ∷ []
   pub position : final (began 0) moving .position ≡ 11

@@ -1,5 +1,5 @@
--- Demand 3 (document 01, "Clocks and lines"), proved of every list of calls and every state at position 0, a start's among them; and
--- that a run leaves the state that as many accepted single steps leave.
+-- The claim about lists of calls (§8), demand 3, proved of every list and every state at position 0, a start's among them; and that a
+-- run leaves the state that as many accepted single steps leave (§7.4).
 use mathlib.Core.Bool.{false}
 use mathlib.Core.List.{List}
 use mathlib.Core.Logic.{_⊎_, inl, inr}
@@ -55,7 +55,7 @@ module _ (s : State) where
       go (no l) front =
           record { before = cs; call = c; inside = begins-self (cs then c); from = omega arith; past = h }
 
-  -- one of them the last call, and the other before it: never
+  -- the last call and one before it never take the same clock
   apart : (cs : Calls) (c : Call) (n : ℕ) (p q : Takes s (cs then c) n) → (p .before then p .call) ≡ (cs then c)
       → Begins (q .before then q .call) cs → ⊥
   apart cs c n p q e b =

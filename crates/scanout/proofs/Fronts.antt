@@ -1,5 +1,5 @@
--- The front of a list of calls (document 01, "Clocks and lines"): what was taken by it stays taken, and the calls before a clock that
--- it took are the same in the whole list. These laws never look into a call.
+-- The front of a list of calls (§8.1): the clocks that it took stay taken, and the calls before one of them are the same in the whole
+-- list. These laws never look into a call.
 use mathlib.Core.Bool.{Bool, true, false, false≢true}
 use mathlib.Core.Logic.{inl, inr}
 use mathlib.Core.Path.{_≡_, refl, ap}
@@ -74,20 +74,20 @@ module _ (s : State) where
   unfolding callsBefore
   before-last cs c n h k = rw (le-ltb n (taken s cs) h, lt-ltb n (taken s (cs then c)) k) refl
 
-  -- a frame that has begun keeps its view
+  -- a frame that has begun keeps its viewport
   frame-viewport-in-front : (part cs : Calls) (f : ℕ) → Begins part cs → f * frameOf s < taken s part
       → frameViewport s cs f ≡ frameViewport s part f
   unfolding frameViewport
   frame-viewport-in-front part cs f b h = ap (lastViewport s) (before-in-front part cs (f * frameOf s) b h)
 
-  -- one that begins with a call has the view that waited before it
+  -- a frame that begins with a call has the viewport that was pending before it
   frame-viewport-begins : (cs : Calls) (c : Call) (f : ℕ) → f * frameOf s ≡ taken s cs → 0 < clocks (final s cs) c
       → frameViewport s (cs then c) f ≡ lastViewport s cs
   unfolding frameViewport
   frame-viewport-begins cs c f e h =
       ap (lastViewport s) (before-last cs c (f * frameOf s) (omega (arith, e)) (omega (arith, e, taken-more cs c)))
 
-  -- so it is scanned with the same words
+  -- and so for the words that a frame is scanned with
   pub frame-words-in-front : (part cs : Calls) (f : ℕ) → Begins part cs → f * frameOf s < taken s part
       → frameWords s cs f ≡ frameWords s part f
   unfolding frameWords

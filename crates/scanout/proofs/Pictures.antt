@@ -1,5 +1,5 @@
--- One picture lent to all accepted runs of a list (document 01, "Clocks and lines"): "after the list each entry holds the colour of its
--- pixel's last clock that a run took; entries with no such clock are as they began".
+-- A picture that all accepted runs of a list share (§8.5): of the clocks that they took for an entry's pixel the latest decides its
+-- colour, and an entry without one is untouched.
 use mathlib.Core.List.{List}
 use mathlib.Core.Logic.{_⊎_, inl, inr}
 use mathlib.Core.Path.{_≡_, refl, sym, ap, _∙_}

@@ -1,5 +1,5 @@
--- Clock numbers and pixels over all frames (document 01, "Clocks and lines"): clock n is the formula's clock of a pixel exactly where its
--- position, n modulo L × C, shows that pixel; then the frame is n / (L × C).
+-- Clock numbers and pixels over all frames (§8.4): clock n is a pixel's clock by the formula exactly where its position, n modulo L × C,
+-- shows that pixel; then the frame is n / (L × C).
 use mathlib.Core.Path.{_≡_, sym, ap, _∙_}
 use Prim.Native.Nat.{ℕ, _+_, _*_, _/_, _%_, _<_}
 use native.Mathlib.Nat.{div-add-mod', add-mul}

@@ -1,4 +1,4 @@
--- What the accepted runs of a list write (document 01, "Clocks and lines").
+-- What the accepted runs of a list write (§8.4).
 use mathlib.Core.List.{List}
 use mathlib.Core.Path.{_≡_, sym, ap, ap₂, _∙_}
 use Prim.Native.Nat.{ℕ, _+_, _-_, _*_, _/_, _%_, min, _<_, _≤_}

@@ -1,5 +1,5 @@
--- The schedule of the views over a list of calls (document 01, "Clocks and lines"): where the position stands, which view waits, and that
--- in mid-frame the view in force is the frame's.
+-- The schedule of the viewports over a list of calls (§8.3): where the position stands, which viewport is pending, and that in mid-frame
+-- the viewport in force is the frame's.
 use mathlib.Core.Path.{_≡_, refl, sym, ap, ap₂, _∙_}
 use Prim.Native.Nat.{ℕ, zero, suc, _+_, _*_, _/_, _%_, _<_, _≤_}
 use native.Mathlib.Decide.{ℕ-discrete, decLt}
@@ -42,7 +42,7 @@ ends-frame from n size pos h =
     let e : from + n ≡ (from / size + 1) * size + 0 = omega (arith, div-add-mod' from size, add-mul (from / size) 1 size) in
     ap (λ (x : ℕ). x % size) e ∙ digits-mod (from / size + 1) pos
 
--- the view that a call's clocks are shown with is their frame's
+-- the viewport that a call's clocks are shown with is their frame's
 pub shows-frame-words : (s : State) (cs : Calls) (c : Call) → Schedule s cs → 0 < clocks (final s cs) c
     → shownWords (final s cs) ≡ frameWords s (cs then c) (taken s cs / frameOf s)
 shows-frame-words s cs c i some = go (ℕ-discrete (taken s cs % frameOf s) 0)
@@ -106,7 +106,7 @@ module _ (s : State) (cs : Calls) (c : Call) (i : Schedule s cs) where
           go (yes h) = still-inside (taken s cs) (clocks (final s cs) c) (frameOf s) (some-frame s) h .0
           go (no h) = absurd (ne (ends-frame (taken s cs) (clocks (final s cs) c) (frameOf s) (some-frame s) (omega (arith, fits, counts))))
 
-  -- a call that takes none, and may bring a view
+  -- a call that takes none, and may bring a viewport
   stands : next (final s cs) c ≡ withPending (final s cs) (pendingAfter (final s cs) (lastViewport s cs) c) → clocks (final s cs) c ≡ 0
       → Schedule s (cs then c)
   unfolding final taken lastViewport

@@ -1,4 +1,4 @@
--- What the accepted steps of a list show (document 01, "Clocks and lines").
+-- What the accepted steps of a list show (§8.4).
 use mathlib.Core.Bool.{Bool, true, false, true≢false}
 use mathlib.Core.Path.{_≡_, refl, sym, ap, ap₂, _∙_}
 use Prim.Native.Nat.{ℕ, _+_, _/_, _%_, _^_, _<_}
@@ -34,7 +34,7 @@ use Rattle.scanout.proofs.PixelTimes.{its-frame, pixel-position, positi
 use Rattle.scanout.proofs.Schedule.{Schedule, shows-frame-words}
 use Rattle.scanout.proofs.Views.{Alike, alike-trans, shown-alike}
 
--- ---- the view of a call's clocks, in the whole list
+-- ---- the viewport of a call's clocks, in the whole list
 
 module _ (s : State) (calls before : Calls) (c : Call) (b : Begins (before then c) calls) (i : Schedule s before) where
   pub shown-in-list : 0 < clocks (final s before) c
@@ -44,7 +44,7 @@ module _ (s : State) (calls before : Calls) (c : Call) (b : Begins (before then 
       ∙ sym (frame-words-in-front s (before then c) calls (taken s before / frameOf s) b
       (omega (arith, taken-more s before c, div-mul-le-self (taken s before) (frameOf s))))
 
-  -- drawing a pixel from the words in force is drawing it under the frame's view
+  -- drawing a pixel from the words that a clock is shown with is drawing it under the frame's viewport
   pub frame-colour : (l : Lent) (short : Bool) → Passed (final s before) (length (l .memory)) (length (l .palette)) short
       → 0 < clocks (final s before) c → (r k : ℕ) → r < height (s .screen .words) → k < width (s .screen .words)
       → frameColour s calls (taken s before / frameOf s) l r k
@@ -72,7 +72,7 @@ module _ (s : State) (calls : Calls) (q : StepIn s calls) (i : Schedule s (q .be
   abbrev from : ℕ
   from = taken s (q .before)
 
-  -- the words in force differ from the first ones in the view only
+  -- the words that the clock is shown with differ from those of s in the viewport only
   alike : Alike (shownWords here) (s .screen .words)
   alike =
       alike-trans (shownWords here) (here .screen .words) (s .screen .words) (shown-alike here)
@@ -81,7 +81,7 @@ module _ (s : State) (calls : Calls) (q : StepIn s calls) (i : Schedule s (q .be
   same-timing : timing (shownWords here) ≡ timing (s .screen .words)
   same-timing = ap timing alike
 
-  -- so whoever reads the pins by the first words reads them right
+  -- so reading the pins by the words of s gives the same
   reads : {A : Type 0} (f : Words → Clock → A) → ((w : Words) (v : _) (k : Clock) → f (withViewport w v) k ≡ f w k)
       → f (s .screen .words) (q .shown .clock)
       ≡ f (shownWords here)

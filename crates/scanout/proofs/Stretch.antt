@@ -1,5 +1,5 @@
--- The active clocks of a run are a stretch of the picture (document 01, "Clocks and lines"): what clock by clock would store inside one
--- frame is what drawing the pixels between two clocks, in reading order, stores.
+-- The active clocks of a run are a stretch of the picture (§7.4, §5.7): what the clocks of one frame store one by one is what drawing the
+-- pixels between two clocks, in reading order, stores.
 use mathlib.Core.List.{List}
 use mathlib.Core.Path.{_≡_, sym, ap, ap₂, _∙_}
 use Prim.Native.Nat.{ℕ, zero, suc, _+_, _-_, _*_, _/_, _%_, _<_, _≤_}
@@ -108,7 +108,7 @@ module _ (s : State) (l : Lent) where
           ∙ ap (λ (k : ℕ). stores colours first (k - first) picture)
           (sym (after-blank t p none) ∙ ap (pixelsBefore t) next)
 
-  -- so many clocks of one frame
+  -- n clocks of one frame
   pub drawn-is-stretch : (n : ℕ) (picture : List ℕ) → s .position + n ≤ frameOf s
       → drawn n s l picture ≡ stores colours first (many n) picture
   unfolding drawn stores

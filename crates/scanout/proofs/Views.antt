@@ -1,5 +1,5 @@
--- The state through a frame (document 01, "Clocks and lines"): the waiting view comes into force with clock 0 and stays in force to the
--- frame's end, and nothing but the view ever changes in the words.
+-- The state through a frame (§7.6): the pending viewport takes over with clock 0 and stays in force to the frame's end, and nothing but
+-- the viewport ever changes in the words.
 use mathlib.Core.Bool.{Bool, true, false, cond}
 use mathlib.Core.Path.{_≡_, refl, sym, ap, ap₂, _∙_}
 use Prim.Native.Nat.{ℕ, zero, suc, _+_, _%_, _<_, _≤_}
@@ -16,7 +16,7 @@ use Rattle.scanout.specs.State.{viewportOf, withViewport, frameOf, shown
 use Rattle.scanout.specs.declared.state.State.{State}
 use Rattle.scanout.specs.declared.state.Viewport.{Viewport}
 
--- ---- words that differ in the view only
+-- ---- words that differ in the viewport only
 
 abbrev pub Alike : Words → Words → Type 0
 Alike w w′ = w ≡ withViewport w′ (viewportOf w)
@@ -24,7 +24,7 @@ Alike w w′ = w ≡ withViewport w′ (viewportOf w)
 pub alike-self : (w : Words) → Alike w w
 alike-self w = refl
 
--- whatever view is put into them, the words are then the same
+-- with the same viewport put into them, they are the same
 pub alike-with : (w w′ : Words) → Alike w w′ → (v : Viewport) → withViewport w v ≡ withViewport w′ v
 alike-with w w′ a v = ap (λ (x : Words). withViewport x v) a
 

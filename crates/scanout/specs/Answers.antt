@@ -1,4 +1,5 @@
--- The paper's number and values of each answer. Promises cite it, so a reader must believe it.
+-- The answers of start, step, run and viewport change (§7.2 to §7.5), each as a number of refusal or its values. Promises cite it, so a
+-- reader must believe it.
 use Prim.Native.Nat.{ℕ}
 use Rattle.laws.specs.Answers.{Answer, accepted, refused}
 use Rattle.signals.specs.declared.clock.Clock.{Clock}

@@ -1,5 +1,5 @@
--- The four calls of a scan (document 01, "Clocks and lines"): what each gives, refused or not. The promises of the code cite these,
--- and the claim of FrameByFrame folds them. Promises cite it, so a reader must believe it.
+-- The four calls of a scan (§7.2 to §7.5): what each gives, refused or not. The claim of FrameByFrame is about lists of them. Promises
+-- cite it, so a reader must believe it.
 use mathlib.Core.Bool.{false}
 use mathlib.Core.List.{List}
 use Prim.Native.Nat.{ℕ, zero, suc, _+_, _-_, _*_, min}
@@ -22,19 +22,20 @@ use Rattle.scanout.specs.State.{viewportOf, frameOf, shownWords, shownSc
 use Rattle.scanout.specs.declared.state.State.{State}
 use Rattle.scanout.specs.declared.state.Viewport.{Viewport}
 
--- ---- start
+-- ---- start (§7.2)
 
--- "A start puts the given view in both places and position 0."
+-- the state that a start gives: the viewport in the words is in force and pending, and clock 0 is next
 abbrev pub begun : Screen → State
 begun s = record { screen = s; pending = viewportOf (s .words); position = 0 }
 
+-- a start: fewer than nine words are refused first, by 10, then the nine are judged (§9.3)
 unfoldable pub start : List ℕ → ℕ → List ℕ → Answer State
 start words window-start memory =
     andThen (load words) (λ w. judged (judgeStart (screen w window-start) (length memory)) (begun (screen w window-start)))
 
--- ---- step
+-- ---- step (§7.3)
 
--- "The data word is the pixel's colour where VDEN is active and 0 elsewhere": what a clock shows, before INVVD
+-- the colour of what a clock shows, before INVVD: its pixel's (§5.5), and 0 where it is blank (§6.7)
 unfoldable pub spotColour : Screen → Lent → Spot → ℕ
 spotColour s l (Pixel r c) = colour s l r c
 spotColour s l Blank = 0
@@ -43,39 +44,43 @@ spotColour s l Blank = 0
 unfoldable pub nextColour : State → Lent → ℕ
 nextColour s l = spotColour (shownScreen s) l (spotAt (timing (s .screen .words)) (s .position))
 
+-- a step is lent no slice besides memory and palette
 unfoldable pub judgeStep : State → Lent → ℕ
 judgeStep s l = judgeScan s (length (l .memory)) (length (l .palette)) false
 
--- "One step gives one clock's levels and the next state."
+-- what an accepted step gives: the levels of the next clock, and the state after it
 abbrev pub oneClock : State → Lent → Shown
 oneClock s l = record { clock = clockAt (shownWords s) (s .position) (nextColour s l); next = advance s }
 
+-- a step: these, or the refusal
 unfoldable pub step : State → Lent → Answer Shown
 step s l = judged (judgeStep s l) (oneClock s l)
 
--- ---- run
+-- ---- run (§7.4)
 
--- "the smaller of the number and the clocks left"
+-- how many clocks a run takes: as many as it is asked for, or what is left of the frame where that is less
 unfoldable pub countOf : State → ℕ → ℕ
 countOf s n = min n (frameOf s - s .position)
 
--- so many clocks, and the state after them
+-- what an accepted run gives: that count, and the state after as many single steps
 abbrev pub manyClocks : State → ℕ → Taken
 manyClocks s n = record { count = countOf s n; next = after (countOf s n) s }
 
--- a picture with the colour of what a clock shows at its pixel's place; a blank clock writes nothing
+-- the picture after a clock that shows this in colour v: a pixel's entry, r × W + c, then holds v; a blank clock writes nothing
 unfoldable pub store : ℕ → Spot → ℕ → List ℕ → List ℕ
 store wide (Pixel r c) v picture = set picture (r * wide + c) v
 store wide Blank v picture = picture
 
+-- the picture after a state's next clock
 unfoldable pub storeNext : State → Lent → List ℕ → List ℕ
 storeNext s l picture = store (width (s .screen .words)) (spotAt (timing (s .screen .words)) (s .position)) (nextColour s l) picture
 
--- "It writes the colours of its active clocks to their places in the lent picture, and nothing else."
+-- the picture after n clocks: each clock writes the pixel that it shows, and no other entry changes
 unfoldable pub drawn : ℕ → State → Lent → List ℕ → List ℕ
 drawn zero s l picture = picture
 drawn (suc n) s l picture = storeNext (after n s) l (drawn n s l picture)
 
+-- a run is judged as a step is, and by 10 for a picture of fewer than W × H entries too
 unfoldable pub judgeRun : State → Lent → List ℕ → ℕ
 judgeRun s l picture =
     judgeScan s (length (l .memory)) (length (l .palette)) (tooShort (length picture) (pixels (s .screen .words)))
@@ -85,12 +90,12 @@ pub record Run : Type 0 where
   pub answer : Answer Taken
   pub left : List ℕ
 
--- a run's answer, and the picture that it leaves
+-- the two put together
 abbrev pub running : Answer Taken → List ℕ → Run
 running answer left = record { answer = answer; left = left }
 
--- "A run takes up to a stated number of clocks, stops at the frame's end, and reports how many it took. It leaves the state that the
--- same number of single steps leaves. With 0 it changes nothing."
+-- a run of at most n clocks: its count and next state, and the picture with its pixels written; or the refusal, and the picture as it
+-- was. Asked for 0 clocks, an accepted run changes nothing
 unfoldable pub run : State → Lent → ℕ → List ℕ → Run
 run s l n picture =
     record {
@@ -98,11 +103,12 @@ run s l n picture =
       left = outcome (judgeRun s l picture) picture (drawn (countOf s n) s l picture) .left;
     }
 
--- ---- viewport change
+-- ---- viewport change (§7.5)
 
+-- a state with another pending viewport
 abbrev pub withPending : State → Viewport → State
 withPending s v = record { screen = s .screen; pending = v; position = s .position }
 
--- "A view change brings new LCDSADDR1 and 2 and becomes the waiting view if accepted."
+-- a viewport change: accepted, the new viewport is the pending one, and nothing else has changed
 unfoldable pub change : State → List ℕ → Viewport → Answer State
 change s memory v = judged (judgeChange s (length memory) v) (withPending s v)

@@ -1,5 +1,5 @@
--- The state of a scan (document 01, "Clocks and lines"): "the nine words in force, the window start, the waiting view (LCDSADDR1 and
--- 2) and the position". A view is a `Viewport`; the waiting view is `pending`.
+-- The state of a scan (§7.1): the screen in force, which is nine words and a window start; the `pending` viewport (the waiting view); and
+-- the position, the number of the next clock in its frame. A `Viewport` (a view) is LCDSADDR1 and LCDSADDR2.
 -- Promises cite it, so a reader must believe it.
 use mathlib.Core.Bool.{cond}
 use Prim.Native.Nat.{ℕ, zero, suc, _+_, _%_}
@@ -11,10 +11,11 @@ use Rattle.memory.specs.declared.Screen.{Screen}
 use Rattle.scanout.specs.declared.state.State.{State}
 use Rattle.scanout.specs.declared.state.Viewport.{Viewport}
 
+-- the viewport in the words
 abbrev pub viewportOf : Words → Viewport
 viewportOf w = record { lcdsaddr1 = w .lcdsaddr1; lcdsaddr2 = w .lcdsaddr2 }
 
--- a view "as if it stood in the nine words"
+-- the words with another viewport in them
 abbrev pub withViewport : Words → Viewport → Words
 withViewport w v =
     record {
@@ -29,11 +30,11 @@ withViewport w v =
       tpal = w .tpal;
     }
 
--- clocks in the frame of a state
+-- clocks in a frame of this state: L × C (§6.3)
 abbrev pub frameOf : State → ℕ
 frameOf s = frameClocks (timing (s .screen .words))
 
--- the words that the next clock is shown with: "The waiting view comes into force when clock 0 is stepped."
+-- the words that the next clock is shown with: clock 0 with the pending viewport, any other with the one in force (§7.6)
 unfoldable pub shownWords : State → Words
 shownWords s = cond (eqb (s .position) 0) (withViewport (s .screen .words) (s .pending)) (s .screen .words)
 
@@ -41,7 +42,8 @@ shownWords s = cond (eqb (s .position) 0) (withViewport (s .screen .words) (s .p
 abbrev pub shownScreen : State → Screen
 shownScreen s = screen (shownWords s) (s .screen .«window_start»)
 
--- the state after one accepted step
+-- the state after one accepted step (§7.3): the screen that the clock was shown with is in force, the pending viewport stays pending,
+-- and after a frame's last clock comes clock 0
 unfoldable pub advance : State → State
 advance s =
     record {
@@ -50,7 +52,7 @@ advance s =
       position = (s .position + 1) % frameOf s;
     }
 
--- the state after so many
+-- the state after n of them
 unfoldable pub after : ℕ → State → State
 after zero s = s
 after (suc n) s = advance (after n s)

@@ -1,5 +1,5 @@
-// The scan-out, clock by clock (document 01, "Clocks and lines"): a start, one step, a run of many and a change of the viewport, over
-// a state by value. What they do over any list of calls is the claim of specs/FrameByFrame.antt.
+// The scan, clock by clock (§7): a start, one step, a run of many clocks and a change of the viewport, over a state by value. What they
+// guarantee over any list of calls (§8) is the claim of specs/FrameByFrame.antt.
 pub mod refusals;
 pub mod run;
 pub mod start;

@@ -1,4 +1,4 @@
-// What start, step, run and viewport change are judged by: the lowest number over all the viewports that a call covers.
+// What start, step, run and viewport change are judged by (§9.3): the lowest number over all the viewports that a call judges (§9.4).
 ghost use mathlib.Core.Path.{_≡_};
 ghost use Rattle.laws.specs.Cases.{lowest};
 ghost use Rattle.scanout.specs.Refusals.{bankDiffers, pastFrame, viewportCases, stateCases, judgeStart, judgeScan, judgeChange};
@@ -14,7 +14,7 @@ use panel::refusals::video_off;
 use panel::timing::frame_clocks;
 use registers::Words;
 
-// 1 to 8 of a viewport in the words of a state.
+// 1 to 8 of a state's words with this viewport in them.
 fn judge_viewport(s: State, v: Viewport, lent: usize) -> u32
     ensures { λ r. ⌜ r ≡ lowest (viewportCases s v lent) ⌝ }
 {
@@ -41,6 +41,7 @@ fn judge_state(s: State, lent: usize) -> u32
     lower(current, judge_viewport(s, s.pending, lent))
 }
 
+// 13 (§9.1): the viewport's LCDBANK is not the one in force.
 fn bank_differs(w: Words, v: Viewport) -> bool
     ensures { λ r. ⌜ r ≡ bankDiffers w v ⌝ }
 {
@@ -48,6 +49,7 @@ fn bank_differs(w: Words, v: Viewport) -> bool
     with.lcdbank() != w.lcdbank()
 }
 
+// 15 (§9.1): the position is past the frame's last clock.
 fn past_frame(s: State) -> bool
     ensures { λ r. ⌜ r ≡ pastFrame s ⌝ }
 {
@@ -61,7 +63,7 @@ pub(crate) fn judge_start(s: Screen, lent: usize) -> u32
     and_where(judge_memory(s, lent), video_off(s.words), 9)
 }
 
-// A step, and a run, whose other lent slice may be too short: 1 to 8, 9, 10, 13, 15.
+// A step or a run: 1 to 8, 9, 10, 13, 15. `short` where a slice that it is lent besides memory and palette is too short.
 pub fn judge_scan(s: State, lent: usize, entries: usize, short: bool) -> u32
     ensures { λ r. ⌜ r ≡ judgeScan s lent entries short ⌝ }
 {

@@ -1,4 +1,4 @@
-// Many clocks of one frame.
+// A run: many clocks of one frame (§7.4).
 ghost use mathlib.Core.Path.{_≡_};
 ghost use Prim.Native.Nat.{_+_, _≤_};
 ghost use lib.ListN.{length};
@@ -23,7 +23,7 @@ pub enum Ran {
     Refused(u32),
 }
 
-// The smaller of a number and the clocks left in the frame.
+// How many clocks a run takes: as many as it is asked for, or what is left of the frame where that is less.
 fn count_of(s: State, clocks: u64) -> u32
     requires { ⌜ s .position ≤ frameOf s ⌝ }
     ensures { λ r. ⌜ r ≡ countOf s clocks ⌝ }
@@ -35,7 +35,7 @@ fn count_of(s: State, clocks: u64) -> u32
     left
 }
 
-// Draws the pixels of the next clocks of a frame, which are shown with this screen: a stretch of the picture.
+// Draws the pixels of the next `count` clocks, which are of one frame and shown with this screen: a stretch of the picture (§5.7).
 fn draw_clocks(
     s: State,
     shown: Screen,
@@ -52,9 +52,9 @@ fn draw_clocks(
     draw_stretch(shown, video, palette, first, end - first, picture);
 }
 
-// Takes up to a number of clocks, and stops at the frame's end: how many it took and the next state. The colours of its active clocks go
-// to their entries of the lent picture; the others stay. Or the number of the refusal: 1 to 8 of the viewport in force and the pending
-// one, 9, 10 for a palette that has not 256 entries or a picture shorter than W x H, 13, 15; then nothing is written.
+// Takes `clocks` clocks, or those left of the frame where they are fewer, and gives how many and the next state. The colour of each
+// pixel that it passes goes to the pixel's entry of `picture`; the others stay. Or the number of the refusal: 1 to 8 of the viewport in
+// force and the pending one, 9, 10 for a palette not of 256 entries or a `picture` of fewer than W × H, 13, 15; then nothing is written.
 pub fn run(s: State, video: &[u32], palette: &[u16], clocks: u64, picture: &mut [u32]) -> Ran
     ensures { λ r. ⌜ running (ran r) (now (picture .exit)) ≡ run s (lending (now (video .entry)) (now (palette .entry))) clocks (now (picture .entry)) ⌝ }
 {

@@ -1,4 +1,4 @@
-// A start.
+// A start (§7.2).
 ghost use mathlib.Core.Path.{_≡_};
 ghost use Rattle.laws.specs.Answers.{judged};
 ghost use Rattle.memory.specs.Memory.{screen};
@@ -38,8 +38,8 @@ fn begin(words: Words, window_start: u32, lent: usize) -> Started
     })
 }
 
-// Starts a scan: the given viewport in force and pending, position 0. Or the number of the refusal: 10 for a slice short of nine
-// words, then 1 to 8, 9.
+// Starts a scan: the viewport in the words is in force and pending, and the position is 0. Or the number of the refusal: 10 for `words`
+// with fewer than nine entries, before all others, then 1 to 8, 9.
 pub fn start(words: &[u32], window_start: u32, video: &[u32]) -> Started
     ensures { λ r. ⌜ started r ≡ start (now (words .entry)) «window_start» (now (video .entry)) ⌝ }
 {

@@ -1,4 +1,4 @@
-// The state of a scan.
+// The state of a scan (§7.1).
 ghost use mathlib.Core.Path.{_≡_};
 ghost use Prim.Native.Nat.{_+_, _%_, _<_, _≤_};
 ghost use Rattle.scanout.specs.Core.{moved};
@@ -7,14 +7,14 @@ use memory::Screen;
 use panel::timing::frame_clocks;
 use registers::Words;
 
-// Where the picture begins and ends: LCDSADDR1 and LCDSADDR2 (the paper's view).
+// Where the picture begins and ends: LCDSADDR1 and LCDSADDR2.
 pub struct Viewport {
     pub lcdsaddr1: u32,
     pub lcdsaddr2: u32,
 }
 
-// The screen in force, the viewport that waits for the next frame (the paper's waiting view) and the number of the next clock in its
-// frame.
+// The screen in force, the pending viewport, which takes over with a frame's first clock (§7.6), and the position: the number of the
+// next clock in its frame.
 pub struct State {
     pub screen: Screen,
     pub pending: Viewport,
@@ -48,7 +48,7 @@ pub fn with_viewport(w: Words, v: Viewport) -> Words
     }
 }
 
-// The words that the next clock is shown with.
+// The words that the next clock is shown with: a frame's first clock is shown with the pending viewport (§7.6).
 pub fn shown_words(s: State) -> Words
     ensures { λ r. ⌜ r ≡ shownWords s ⌝ }
 {
@@ -69,7 +69,7 @@ pub fn shown_screen(s: State) -> Screen
     }
 }
 
-// The number of the next clock in a frame of so many: after the last comes clock 0.
+// The position `count` clocks on, in a frame of `frame` clocks: after the last comes clock 0.
 fn position_after(position: u32, count: u32, frame: u32) -> u32
     requires { ⌜ (0 < frame) × (position + count ≤ frame) ⌝ }
     ensures { λ r. ⌜ r ≡ (position + count) % frame ⌝ }
@@ -81,7 +81,7 @@ fn position_after(position: u32, count: u32, frame: u32) -> u32
     next
 }
 
-// The state so many clocks on, all of one frame and shown with this screen.
+// The state `count` clocks on, all of one frame and shown with this screen.
 pub(crate) fn moved(s: State, shown: Screen, count: u32) -> State
     requires { ⌜ (shown ≡ shownScreen s) × (s .position + count ≤ frameOf s) ⌝ }
     ensures { λ r. ⌜ r ≡ moved count s ⌝ }

@@ -1,4 +1,4 @@
-// One clock.
+// A step: one clock (§7.3).
 ghost use mathlib.Core.Path.{_≡_};
 ghost use Rattle.drawing.specs.Colour.{lending};
 ghost use Rattle.scanout.specs.Answers.{stepped};
@@ -21,7 +21,7 @@ pub enum Stepped {
     Refused(u32),
 }
 
-// The colour, before INVVD, of what a clock shows.
+// The colour of what a clock shows, before INVVD.
 fn spot_colour(s: Screen, video: &[u32], palette: &[u16], spot: Spot) -> u32
     ensures { λ r. ⌜ r ≡ spotColour s (lending (now (video .entry)) (now (palette .entry))) spot ⌝ }
 {
@@ -32,7 +32,7 @@ fn spot_colour(s: Screen, video: &[u32], palette: &[u16], spot: Spot) -> u32
 }
 
 // Takes one clock: its levels and the next state, or the number of the refusal: 1 to 8 of the viewport in force and the pending one,
-// 9, 10 for a palette that has not 256 entries, 13, 15.
+// 9, 10 for a palette not of 256 entries, 13, 15.
 pub fn step(s: State, video: &[u32], palette: &[u16]) -> Stepped
     ensures { λ r. ⌜ stepped r ≡ step s (lending (now (video .entry)) (now (palette .entry))) ⌝ }
 {

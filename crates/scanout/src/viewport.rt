@@ -1,4 +1,4 @@
-// A change of the viewport.
+// A change of the viewport (§7.5).
 ghost use mathlib.Core.Path.{_≡_};
 ghost use Rattle.scanout.specs.Answers.{changed};
 ghost use Rattle.scanout.specs.Calls.{change};
@@ -6,14 +6,14 @@ use super::refusals::judge_change;
 use super::state::State;
 use super::state::Viewport;
 
-// The state in which the new viewport waits, or a refusal's number.
+// The state with the new viewport pending, or a refusal's number.
 pub enum Changed {
     Pending(State),
     Refused(u32),
 }
 
-// Brings a new viewport, which waits for the next frame. Or the number of the refusal: 1 to 8 of the viewport in force, the pending one
-// and the new one, 9, 13, 15.
+// Makes a new viewport the pending one; it takes over when clock 0 is taken next (§7.6). Or the number of the refusal: 1 to 8 of the
+// viewport in force, the pending one and the new one, 9, 13, 15.
 pub fn change_viewport(s: State, video: &[u32], v: Viewport) -> Changed
     ensures { λ r. ⌜ changed r ≡ change s (now (video .entry)) v ⌝ }
 {

@@ -1,5 +1,5 @@
--- The scan's slice keeps the state (document 01, "Clocks and lines"): the state that an accepted call stores in a slice of 13 entries
--- is the one that the next call reads there. It is proved here, and nothing need be believed beyond the definitions that it names.
+-- The scan's slice keeps the state (§10.4): what an accepted call stores in a slice of 13 entries, the next call reads back. It is
+-- proved here, so a reader need not believe more than the definitions it names.
 use mathlib.Core.List.{List}
 use mathlib.Core.Path.{_≡_, refl, sym, _∙_}
 use Prim.Native.Nat.{ℕ, _<_, _≤_}

@@ -1,5 +1,5 @@
--- The scan in lent slices (document 01, "Clocks and lines" and "Numbers of refusal"). Its state is 13 entries; where the slice has
--- fewer, no state can be read, and 10 stands before all. Promises cite it, so a reader must believe it.
+-- The scan in slices (§10.4): start, step, run and viewport change (§7.2 to §7.5) on a state that lies in 13 entries. In fewer entries
+-- step, run and viewport change have no state to judge, so for them 10 comes first (§9.3). Promises cite it, so a reader must believe it.
 use mathlib.Core.Bool.{Bool, _||_}
 use mathlib.Core.List.{List, [], _∷_, _++_}
 use Prim.Native.Nat.{ℕ}
@@ -17,9 +17,9 @@ use Rattle.scanout.specs.Refusals.{judgeScan}
 use Rattle.scanout.specs.declared.state.State.{State}
 use Rattle.scanout.specs.declared.state.Viewport.{Viewport}
 
--- ---- the state in its slice: the words in force, the window start, the pending LCDSADDR1 and LCDSADDR2, the position
+-- ---- the state in its slice (§10.4)
 
--- as it is read: entries 0 to 8, 9, 10 and 11, 12
+-- as it is read: entries 0 to 8 the words in force, 9 the window start, 10 and 11 the pending LCDSADDR1 and LCDSADDR2, 12 the position
 abbrev pub stateOf : List ℕ → State
 stateOf scan =
     record {
@@ -33,46 +33,46 @@ abbrev pub entriesOf : State → List ℕ
 entriesOf s =
     wordEntries (s .screen .words) ++ (s .screen .«window_start» ∷ s .pending .lcdsaddr1 ∷ s .pending .lcdsaddr2 ∷ s .position ∷ [])
 
--- a slice in which it is stored; further entries stay
+-- the slice with the state stored in it; further entries stay
 unfoldable pub putState : State → List ℕ → List ℕ
 putState s scan = begunWith (entriesOf s) scan
 
--- 10: fewer than 13 entries for the scan
+-- 10 (§10.4): fewer than 13 entries for the state
 abbrev pub shortOfState : List ℕ → Bool
 shortOfState scan = tooShort (length scan) 13
 
 abbrev pub judgeSlice : List ℕ → ℕ
 judgeSlice scan = lowest (10 when shortOfState scan ∷ [])
 
--- the state that a slice gives
+-- the state in a slice, or 10
 unfoldable pub loadScan : List ℕ → Answer State
 loadScan scan = judged (judgeSlice scan) (stateOf scan)
 
--- ---- start
+-- ---- start (§7.2)
 
--- a state is stored where the slice has room for it
+-- the slice with the new state stored in it, or 10 where it has no room
 unfoldable pub putStarted : State → List ℕ → Outcome
 putStarted s scan = outcome (judgeSlice scan) scan (putState s scan)
 
--- of the state that a start gives
+-- the state that a start gives, stored; a refused start leaves the slice
 unfoldable pub startScan : List ℕ → ℕ → List ℕ → List ℕ → Outcome
 startScan words window-start memory scan = outcomeOn (start words window-start memory) scan (λ s. putStarted s scan)
 
--- ---- step
+-- ---- step (§7.3)
 
--- the levels of a clock, in order
+-- the levels of a clock (§6.7), in the slice's order
 abbrev pub levels : Clock → List ℕ
 levels k = k .vsync ∷ k .hsync ∷ k .vden ∷ k .vd ∷ []
 
--- a slice in which they are stored; further entries stay
+-- the slice with the levels stored in it; further entries stay
 unfoldable pub putLevels : Clock → List ℕ → List ℕ
 putLevels k clock = begunWith (levels k) clock
 
--- 10: fewer than four entries for them
+-- 10 (§10.4): fewer than four entries for the levels
 abbrev pub shortOfLevels : List ℕ → Bool
 shortOfLevels clock = tooShort (length clock) 4
 
--- judged as a step, and by that
+-- judged as a step, and by that 10 too
 unfoldable pub stepOn : State → Lent → List ℕ → Answer Shown
 stepOn s l clock =
     judged (judgeScan s (length (l .memory)) (length (l .palette)) (shortOfLevels clock))
@@ -87,23 +87,23 @@ pub record StepLeft : Type 0 where
 abbrev pub stepLeaves : ℕ → List ℕ → List ℕ → StepLeft
 stepLeaves n scan clock = record { refusal = n; scan = scan; clock = clock }
 
--- the next state and the levels where it is accepted; both slices as they were where it is refused
+-- accepted: the next state and the levels; refused: both slices as they were (§9.5)
 unfoldable pub stepLeft : List ℕ → List ℕ → Answer Shown → StepLeft
 stepLeft scan clock (accepted k) = stepLeaves 0 (putState (k .next) scan) (putLevels (k .clock) clock)
 stepLeft scan clock (refused n) = stepLeaves n scan clock
 
--- of the state that the slice gives
+-- a step of the state in the slice
 unfoldable pub stepScan : List ℕ → List ℕ → List ℕ → List ℕ → StepLeft
 stepScan scan memory palette clock =
     stepLeft scan clock (andThen (loadScan scan) (λ s. stepOn s (lending memory palette) clock))
 
--- ---- run
+-- ---- run (§7.4)
 
--- 10: no entry for the count
+-- 10 (§10.4): no entry for the count
 abbrev pub shortOfCount : List ℕ → Bool
 shortOfCount taken = tooShort (length taken) 1
 
--- judged as a run, and by that
+-- judged as a run, and by that 10 too
 unfoldable pub runOn : State → Lent → ℕ → List ℕ → List ℕ → Answer Taken
 runOn s l n picture taken =
     judged
@@ -121,25 +121,25 @@ pub record RunLeft : Type 0 where
 abbrev pub runLeaves : ℕ → List ℕ → List ℕ → List ℕ → RunLeft
 runLeaves n scan picture taken = record { refusal = n; scan = scan; picture = picture; taken = taken }
 
--- the next state, the colours of the clocks taken and their count where it is accepted; all as it was where it is refused
+-- accepted: the next state, the colours of the clocks taken and their count; refused: all slices as they were (§9.5)
 unfoldable pub runLeft : Lent → List ℕ → List ℕ → List ℕ → Answer Taken → RunLeft
 runLeft l scan picture taken (accepted t) =
     runLeaves 0 (putState (t .next) scan) (drawn (t .count) (stateOf scan) l picture) (set taken 0 (t .count))
 runLeft l scan picture taken (refused m) = runLeaves m scan picture taken
 
--- of the state that the slice gives
+-- a run of the state in the slice
 unfoldable pub runScan : List ℕ → List ℕ → List ℕ → ℕ → List ℕ → List ℕ → RunLeft
 runScan scan memory palette n picture taken =
     runLeft (lending memory palette) scan picture taken
     (andThen (loadScan scan) (λ s. runOn s (lending memory palette) n picture taken))
 
--- ---- viewport change
+-- ---- viewport change (§7.5)
 
--- where the change is accepted, the new viewport is pending
+-- accepted: the new viewport is the pending one
 unfoldable pub changeOn : State → List ℕ → Viewport → List ℕ → Outcome
 changeOn s memory v scan = outcomeOn (change s memory v) scan (λ t. leaves 0 (putState t scan))
 
--- a and b are the new LCDSADDR1 and LCDSADDR2
+-- a viewport change of the state in the slice; a and b are the new LCDSADDR1 and LCDSADDR2
 unfoldable pub changeScan : List ℕ → List ℕ → ℕ → ℕ → Outcome
 changeScan scan memory a b =
     outcomeOn (loadScan scan) scan (λ s. changeOn s memory (record { lcdsaddr1 = a; lcdsaddr2 = b }) scan)

@@ -1,6 +1,6 @@
-// A scan whose state is a lent slice (document 01, "Clocks and lines") of 13 entries: 0 to 8 the nine words in force, 9 the window
-// start, 10 and 11 the pending LCDSADDR1 and LCDSADDR2, 12 the position. Further entries stay. A step's levels and a run's count go to
-// slices of their own. 0 is done, any other answer the number of the refusal, and then nothing lent is changed.
+// The scan's calls on slices (§10.4). The state is a lent slice of 13 entries: 0 to 8 the nine words in force, 9 the window start,
+// 10 and 11 the pending LCDSADDR1 and LCDSADDR2, 12 the position. Further entries stay. A step's levels and a run's count go to
+// slices of their own. The answer is 0 when done, else the number of the refusal, and then nothing lent is changed (§9.5).
 ghost use mathlib.Core.Bool.{true};
 ghost use mathlib.Core.Path.{_≡_};
 ghost use Prim.Native.Nat.{_≤_};
@@ -106,7 +106,8 @@ fn put_started(s: State, scan: &mut [u32]) -> u32
     0
 }
 
-// Starts a scan: its state to `scan`. 10 for a slice short of nine words, then 1 to 8, 9, 10 where `scan` has fewer than 13 entries.
+// Starts a scan (§7.2) and stores its state in `scan`. Refusals in order: 10 where `words` has fewer than nine entries, 1 to 8, 9, 10
+// where `scan` has fewer than 13.
 pub fn start_scan(words: &[u32], window_start: u32, video: &[u32], scan: &mut [u32]) -> u32
     ensures { λ r. ⌜ leaves r (now (scan .exit)) ≡ startScan (now (words .entry)) «window_start» (now (video .entry)) (now (scan .entry)) ⌝ }
 {
@@ -118,7 +119,7 @@ pub fn start_scan(words: &[u32], window_start: u32, video: &[u32], scan: &mut [u
 
 // ---- a step
 
-// What a step or run is judged by that lacks room for what it gives: 10 where no lower number applies.
+// The number for a step or run that has no room for its levels or its count: 10, unless a lower one applies (§9.2).
 fn judge_short(scan: &[u32], video: &[u32], palette: &[u16]) -> u32
     ensures { λ r. ⌜ r ≡ judgedOn (loadScan (now (scan .entry))) (λ s. judgeScan s (length (now (video .entry))) (length (now (palette .entry))) true) ⌝ }
 {
@@ -150,9 +151,9 @@ fn step_on(s: State, video: &[u32], palette: &[u16], scan: &mut [u32], clock: &m
     }
 }
 
-// One clock: the next state to `scan`; VSYNC, HSYNC, VDEN and VD to entries 0 to 3 of `clock`. 10 where `scan` has fewer than 13
-// entries, then 1 to 8 of the viewport in force and of the pending one, 9, 10 for a palette that has not 256 entries or a `clock` of
-// fewer than 4, 13, 15.
+// Steps one clock (§7.3): the next state goes to `scan`, VSYNC, HSYNC, VDEN and VD go to entries 0 to 3 of `clock`. Refusals in order:
+// 10 where `scan` has fewer than 13 entries, 1 to 8 over the viewport in force and the pending one, 9, 10 for a palette not of 256
+// entries or a `clock` of fewer than 4, 13, 15.
 pub fn step_scan(scan: &mut [u32], video: &[u32], palette: &[u16], clock: &mut [u32]) -> u32
     ensures { λ r. ⌜ stepLeaves r (now (scan .exit)) (now (clock .exit)) ≡ stepScan (now (scan .entry)) (now (video .entry)) (now (palette .entry)) (now (clock .entry)) ⌝ }
 {
@@ -190,9 +191,10 @@ fn run_on(
     }
 }
 
-// Up to a number of clocks, to the frame's end at most: the next state to `scan`, how many it took to entry 0 of `taken`, and the
-// colours of its active clocks to their entries of `picture`. 10 where `scan` has fewer than 13 entries, then 1 to 8 of the viewport in
-// force and of the pending one, 9, 10 for a palette that has not 256 entries, a picture shorter than W x H or an empty `taken`, 13, 15.
+// Runs up to `clocks` clocks, to the end of the frame at most (§7.4): the next state goes to `scan`, the count of clocks taken to
+// entry 0 of `taken`, the colour of each pixel scanned to its entry of `picture`. Refusals in order: 10 where `scan` has fewer than 13
+// entries, 1 to 8 over the viewport in force and the pending one, 9, 10 for a palette not of 256 entries, a `picture` of fewer than
+// W × H entries or an empty `taken`, 13, 15.
 pub fn run_scan(
     scan: &mut [u32],
     video: &[u32],
@@ -213,7 +215,7 @@ pub fn run_scan(
     run_on(s, video, palette, clocks, picture, scan, taken)
 }
 
-// ---- a change of the viewport
+// ---- a viewport change
 
 fn change_on(s: State, video: &[u32], v: Viewport, scan: &mut [u32]) -> u32
     requires { ⌜ 13 ≤ length (now scan) ⌝ }
@@ -228,8 +230,8 @@ fn change_on(s: State, video: &[u32], v: Viewport, scan: &mut [u32]) -> u32
     }
 }
 
-// Brings a new LCDSADDR1 and LCDSADDR2, which wait for the next frame. 10 where `scan` has fewer than 13 entries, then 1 to 8 of the
-// viewport in force, the pending one and the new one, 9, 13, 15.
+// Makes a new LCDSADDR1 and LCDSADDR2 the pending viewport (§7.5), in force from the next frame (§7.6). Refusals in order: 10 where
+// `scan` has fewer than 13 entries, 1 to 8 over the viewport in force, the pending one and the new one, 9, 13, 15.
 pub fn change_scan(scan: &mut [u32], video: &[u32], lcdsaddr1: u32, lcdsaddr2: u32) -> u32
     ensures { λ r. ⌜ leaves r (now (scan .exit)) ≡ changeScan (now (scan .entry)) (now (video .entry)) lcdsaddr1 lcdsaddr2 ⌝ }
 {

@@ -1,5 +1,5 @@
--- What the pins say when they are read (document 01, "Clocks and lines"): the levels and the data word at a position give back which
--- parts it lies in and the colour before INVVD, whatever the bits that exchange them.
+-- What the pins say when they are read (§6.7): the levels and the data word at a position give back which parts it lies in and the
+-- colour before INVVD, whatever the INV bits.
 use mathlib.Core.Bool.{Bool, true, false, cond}
 use mathlib.Core.Path.{_≡_, refl, _∙_}
 use Prim.Native.Nat.{ℕ, zero, suc, _+_, _-_, _/_, _%_, _^_, _<_}

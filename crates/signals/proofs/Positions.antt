@@ -1,5 +1,5 @@
--- Which clock shows which pixel (document 01, "Clocks and lines"): a position shows the pixel in row r, column c exactly where the
--- formula gives it. Only these laws and those of ReadingOrder open the definitions of the parts.
+-- Which clock shows which pixel (§6.6): a position shows the pixel in row r, column c exactly where the formula gives that position.
+-- Only these laws and those of ReadingOrder open the definitions of the parts.
 use mathlib.Core.Bool.{Bool, true, false, cond}
 use mathlib.Core.Path.{_≡_, refl, sym, ap, ap₂, _∙_}
 use Prim.Native.Nat.{ℕ, _+_, _-_, _*_, _/_, _%_, _<_, _≤_}
@@ -16,7 +16,7 @@ use Rattle.signals.specs.declared.parts.Part.{Part}
 use Rattle.signals.specs.declared.parts.Part.the-variants.{Sync, BackPorch, Active, FrontPorch}
 use Rattle.signals.specs.declared.pixel.Spot.the-variants.{Pixel, Blank}
 
--- ---- where a number lies: ahead of the active ones, among them, or past them
+-- ---- where the number of a line or clock lies: ahead of the active ones, among them, or past them
 
 pub data Lies (before active n : ℕ) : Type 0 where
   ahead : n < before → Lies before active n
@@ -100,7 +100,7 @@ module _ (t : Timing) where
   pub some-clocks : 0 < lineClocks t
   some-clocks = omega (arith, line-room)
 
-  -- the row and column that a position's line and clock give
+  -- the line and clock of position p are those of row r, column c
   pub record At (p r c : ℕ) : Type 0 where
     pub row : r < high
     pub column : c < wide
@@ -148,9 +148,9 @@ module _ (t : Timing) where
           let a : At p r c = record { row = h; column = k; line = e; clock = e′ } in
           pixel r c a (at-shows p r c a)
 
-  -- ---- and the formula
+  -- ---- the formula (§6.6)
 
-  -- the clock that the formula gives lies in that row and column
+  -- the position that the formula gives is in that row and column
   pub at-pixel-clock : (r c : ℕ) → r < high → c < wide → At (pixelClock t r c) r c
   unfolding pixelClock
   at-pixel-clock r c h k =

@@ -1,5 +1,5 @@
--- The pixels of a frame come in reading order (document 01, "Clocks and lines"): before the clock of the pixel in row r, column c
--- come r × W + c pixels, one more after it, and a blank clock adds none.
+-- The pixels of a frame come in reading order (§6.6): before the clock of the pixel in row r, column c come r × W + c pixels, after it
+-- one more, and a blank clock adds none.
 use mathlib.Core.Path.{_≡_, refl, sym, ap, ap₂, _∙_}
 use Prim.Native.Nat.{ℕ, zero, suc, _+_, _-_, _*_, _/_, _%_, _<_, _≤_}
 use native.Mathlib.Decide.{decLt}
@@ -57,7 +57,7 @@ module _ (t : Timing) where
   abbrev cols : ℕ → ℕ
   cols clock = columnsBefore (clocksBefore t) (wide t) clock
 
-  -- in the line and at the clock with these numbers
+  -- at the clock with this number, in the line with this number
   abbrev count : ℕ → ℕ → ℕ
   count line clock = pixelsInLines (linesBefore t) (high t) (wide t) line (cols clock)
 
@@ -92,7 +92,7 @@ module _ (t : Timing) where
               ∙ ap (λ (n : ℕ). n * wide t) (omega arith)
               ∙ more
 
-  -- the same line where the clocks before it are as many
+  -- two clocks of a line with as many columns before them count the same
   same-columns : (line clock clock′ : ℕ) → cols clock ≡ cols clock′ → count line clock ≡ count line clock′
   same-columns line clock clock′ e = ap (pixelsInLines (linesBefore t) (high t) (wide t) line) e
 
@@ -193,7 +193,7 @@ module _ (t : Timing) where
       let e : p + suc n ≡ p + n + 1 = omega arith in
       omega (arith, grows-by p n, grows (p + n), ap (pixelsBefore t) e)
 
-  -- the further the clock, the more pixels before it
+  -- the later the clock, the more pixels before it
   pub further : (p q : ℕ) → p ≤ q → pixelsBefore t p ≤ pixelsBefore t q
   further p q h =
       let e : p + (q - p) ≡ q = omega arith in

@@ -1,4 +1,4 @@
--- The four signals at a clock (document 01, "Clocks and lines"). Promises cite it, so a reader must believe it.
+-- The four signals at a clock (§6.7). Promises cite it, so a reader must believe it.
 use mathlib.Core.Bool.{Bool, true, false, not, cond}
 use Prim.Native.Nat.{ℕ, _-_, _%_, _^_}
 use lib.Dec.{eqb}
@@ -13,26 +13,28 @@ use Rattle.signals.specs.declared.parts.Part.the-variants.{Sync, BackPor
 use Rattle.signals.specs.declared.pixel.Spot.{Spot}
 use Rattle.signals.specs.declared.pixel.Spot.the-variants.{Pixel, Blank}
 
--- "A level is 1 when active, exchanged by INVVFRAME, INVVLINE and INVVDEN."
+-- a level (§6.7): 1 where the signal is active, else 0; exchanged where the signal's INV bit is set
 unfoldable pub level : ℕ → Bool → ℕ
 level invert active = cond (eqb invert 1) (cond active 0 1) (cond active 1 0)
 
--- "INVVD complements all 24 lines at every clock."
+-- the data word (§6.7): a colour's 24 lines, complemented where INVVD is set, at blank clocks too
 unfoldable pub dataWord : ℕ → ℕ → ℕ
 dataWord invert colour = cond (eqb invert 1) (2 ^ 24 - 1 - colour % 2 ^ 24) (colour % 2 ^ 24)
 
+-- the part is sync
 unfoldable pub inSync : Part → Bool
 inSync Sync = true
 inSync BackPorch = false
 inSync (Active k) = false
 inSync FrontPorch = false
 
+-- the clock shows a pixel
 unfoldable pub showsPixel : Spot → Bool
 showsPixel (Pixel r c) = true
 showsPixel Blank = false
 
--- "VSYNC is active through all sync lines, HSYNC through the sync clocks of every line, VDEN where line and clock are both active."
--- By the parts in which line and clock lie; the data word is of the clock's colour before INVVD.
+-- the four signals (§6.7), by the parts in which line and clock lie and by the colour before INVVD: VSYNC is active in a sync line,
+-- HSYNC at a sync clock, VDEN at a pixel
 unfoldable pub clockOf : Words → Part → Part → ℕ → Clock
 clockOf w line clock colour =
     record {
@@ -42,13 +44,13 @@ clockOf w line clock colour =
       vd = dataWord (invvd w) colour;
     }
 
--- the levels at a position
+-- the four signals at a position (§6.7)
 unfoldable pub clockAt : Words → ℕ → ℕ → Clock
 clockAt w p colour = clockOf w (linePart (timing w) p) (clockPart (timing w) p) colour
 
--- ---- reading the pins
+-- ---- reading the pins (§6.7)
 
--- whether a level says active: it differs from the bit that exchanges it
+-- whether a level says active: it differs from the INV bit of its signal
 unfoldable pub isActive : ℕ → ℕ → Bool
 isActive invert level = not (eqb level invert)
 
@@ -61,6 +63,6 @@ hsyncActive w k = isActive (invvline w) (k .hsync)
 abbrev pub vdenActive : Words → Clock → Bool
 vdenActive w k = isActive (invvden w) (k .vden)
 
--- the colour "before INVVD" of a data word: INVVD's complement undone
+-- the colour before INVVD: the data word with INVVD's complement undone
 unfoldable pub beforeInvvd : Words → Clock → ℕ
 beforeInvvd w k = cond (eqb (invvd w) 1) (2 ^ 24 - 1 - k .vd) (k .vd)

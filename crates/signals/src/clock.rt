@@ -1,4 +1,4 @@
-// The levels of the four signals at a clock.
+// The levels of the four signals at a clock (§6.7).
 ghost use mathlib.Core.Path.{_≡_};
 ghost use Rattle.signals.specs.Clock.{level, dataWord, inSync, showsPixel, clockOf};
 use super::parts::Part;
@@ -52,7 +52,7 @@ fn shows_pixel(spot: Spot) -> bool
     }
 }
 
-// The levels at a clock in these parts whose colour, before INVVD, is given.
+// The levels at a clock that lies in these parts; `colour` is its colour before INVVD.
 pub fn clock_of(w: Words, parts: Parts, colour: u32) -> Clock
     ensures { λ r. ⌜ r ≡ clockOf w (parts .line) (parts .clock) colour ⌝ }
 {

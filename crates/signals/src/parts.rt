@@ -1,4 +1,4 @@
-// The parts of a line and of a frame.
+// The parts of a line and of a frame (§6.5).
 ghost use mathlib.Core.Path.{_≡_};
 ghost use Rattle.panel.specs.Timing.{timing};
 ghost use Rattle.signals.specs.Parts.{partAt, linesBefore, clocksBefore, partsAt};
@@ -7,7 +7,7 @@ use panel::geometry::width;
 use panel::timing::line_clocks;
 use registers::Words;
 
-// A part of a line, or of a frame; an active line or clock by its number among the active ones.
+// A part of a line or of a frame. An active clock or line has its number among the active ones.
 pub enum Part {
     Sync,
     BackPorch,
@@ -29,7 +29,7 @@ pub fn clocks_before(w: Words) -> u32
     (w.hspw() + 1) + (w.hbpd() + 1)
 }
 
-// The part in which the line, or clock, with a number lies: `sync` of them in sync, `before` ahead of the active ones.
+// The part of the line, or clock, with this number: the first `sync` are in sync, `before` come before the active ones.
 fn part_at(sync: u32, before: u32, active: u32, number: u32) -> Part
     ensures { λ r. ⌜ r ≡ partAt sync before active number ⌝ }
 {
@@ -45,7 +45,7 @@ fn part_at(sync: u32, before: u32, active: u32, number: u32) -> Part
     Part::FrontPorch
 }
 
-// Where a position lies in its frame and in its line.
+// Where a position lies: the part of its line in the frame, and of its clock in the line.
 pub struct Parts {
     pub line: Part,
     pub clock: Part,

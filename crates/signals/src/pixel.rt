@@ -1,4 +1,4 @@
-// The pixel of a position, and how many pixels come before it.
+// The pixel of a position, and how many pixels come before it (§6.6).
 ghost use mathlib.Core.Path.{_≡_};
 ghost use Prim.Native.Nat.{_≤_};
 ghost use Rattle.panel.specs.Timing.{timing};
@@ -34,7 +34,7 @@ pub fn spot_of(parts: Parts) -> Spot
     }
 }
 
-// Active clocks of an active line before its clock with a number.
+// Active clocks of an active line before the clock with this number.
 fn columns_before(before: u32, wide: u32, clock: u32) -> u32
     ensures { λ r. ⌜ r ≡ columnsBefore before wide clock ⌝ }
 {
@@ -47,7 +47,7 @@ fn columns_before(before: u32, wide: u32, clock: u32) -> u32
     clock - before
 }
 
-// Pixels before a clock of the line with a number: `columns` of them in this line where it is active.
+// Pixels before a clock in the line with this number: `columns` of them in the line itself, where it is active.
 fn pixels_in_lines(before: u32, high: u32, wide: u32, line: u32, columns: u32) -> u32
     requires { ⌜ (high ≤ 1024) × (wide ≤ 2048) × (columns ≤ wide) ⌝ }
     ensures { λ r. ⌜ r ≡ pixelsInLines before high wide line columns ⌝ }

@@ -107,7 +107,7 @@ run two.dump -o two.png
 neighbour 'equal with HWSWP 1' swap.dump --compare two.png --tolerance 8
 run swap.dump --compare two.png --tolerance 7
 same "$(grep -c '^not equal with HWSWP 1' out)" 1 'a neighbour outside the tolerance'
-# T1 with a row more of memory, its view a row down: LCDBASEU 2 and LCDBASEL 6; then back again
+# T1 with a row more of memory, its viewport a row down: LCDBASEU 2 and LCDBASEL 6; then back again
 { cat "$t1"; printf '\x01\x02\x03\x00'; } > three.dump
 patch three.dump 20 2 > a && patch a 24 6 > down.dump
 run down.dump -o down.png

@@ -31,6 +31,22 @@ same "$(./refuse++)" "$due" 'a C++ program over the library'
 patch "$t1" 0 0x5b > stn.dump
 gives 1 'refused 2' stn.dump
 same "$(sed -n 2p out)" 'PNRMODE is not 3, TFT' 'the text of a refusal'
-# The README's table has the same numbers.
-same "$(sed -n 's/^    R(\([0-9]*\),.*/\1/p' "$top/host/lcd.h" | xargs)" "$(sed -n 's/^| \([0-9]*\) | .*/\1/p' "$top/README.md" | sort -nu | xargs)" \
-    'the numbers of refusal in lcd.h and in the README'
+# The README's lines of C compile, in a function that has what they take for granted.
+{
+    printf '%s\n' '#include <stdio.h>' '#include "lcd.h"' \
+        'void lines(uint32_t *words, uint32_t *video, size_t video_len, uint16_t *palette, uint32_t *picture, size_t picture_len,' \
+        '           uint32_t lcdsaddr1, uint32_t lcdsaddr2) {'
+    sed -n '/^```c$/,/^```$/p' "$top/README.md" | sed '/^```/d; /^#include/d'
+    echo '}'
+} > lines.c
+status=0
+gcc -std=c11 -Wall -Wextra -Werror -Wno-unused-but-set-variable -I"$top/host" -c lines.c -o lines.o 2> err || status=$?
+same "$status $(grep -c ' = lcd_' lines.c)" '0 5' "the README's lines of C: $(head -n 3 err)"
+
+# docs/REFERENCE.md has the same numbers of refusal (§9.1) and the same declarations (§10.1) as lcd.h.
+reference=$top/docs/REFERENCE.md
+same "$(sed -n '/^### §9\.1 /,/^### §9\.2 /s/^| \([0-9]*\) | .*/\1/p' "$reference" | xargs)" \
+    "$(sed -n 's/^    R(\([0-9]*\),.*/\1/p' "$top/host/lcd.h" | xargs)" 'the numbers of refusal in the reference and in lcd.h'
+declarations() { tr '\n' ' ' | sed 's/  */ /g' | grep -oE 'uint32_t lcd_[a-z_]+\([^)]*\);'; }
+same "$(sed -n '/^### §10\.1 /,/^### §10\.2 /p' "$reference" | declarations)" "$(declarations < "$top/host/lcd.h")" \
+    'the declarations in the reference and in lcd.h'

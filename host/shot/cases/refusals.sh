@@ -106,10 +106,10 @@ says '153600 bytes are missing before its start' 'a view far before the memory'
 all_faults '479 14fc041 98f009 9 b09 18000001 12c00 888f1 0' '5 6 8'
 says 'LCDBASEU = 1 is odd; PAGEWIDTH = 241 is odd; OFFSIZE = 273 is odd' 'three odd numbers'
 says 'lifted by LCDBASEU 0, OFFSIZE 272, HOZVAL 239 and PAGEWIDTH 240, then refused 6' 'four fields together'
-# an odd view whose end fits it: both move together
+# a viewport at an odd LCDBASEU whose end fits it: both move together
 all_faults '479 14fc041 98ef09 9 b09 18000001 12c01 f0 0' '5 8'
 says 'lifted by LCDBASEU 0 and LCDBASEL 76800, then accepted' 'LCDBASEL along with LCDBASEU'
-# an odd view far from its end and from the memory
+# a viewport at an odd LCDBASEU, far from its end and from the memory
 all_faults '479 14fc041 98ef09 9 b09 180edbf9 12c00 f0 0' '5 6 8'
 # a row of no length, a row that no width fits in this mode
 all_faults '479 14fc041 98ef09 9 b09 18000000 0 0 0' '5'

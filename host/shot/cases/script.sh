@@ -70,7 +70,7 @@ for round in 1 2 3 4; do
     same "$(cat at-once-* | sort -u)" "$due" "six calls at once after a change, round $round"
 done
 
-# ---- the commands of the README and of docs/DUMPS.md, as they stand there
+# ---- the commands of the documents, as they stand there
 
 cp -r "$top/README.md" "$top/examples" "$top/docs" tree
 cd tree
@@ -87,4 +87,11 @@ done < <(sed -n 's/^ \{4,\}\(host\/lcdshot .*\)/\1/p; s/^ \{4,\}\(p="--palette.*
 same "$commands $(ls screen.png board.dump card.dump)" "16 board.dump
 card.dump
 screen.png" 'all commands were found'
+# in docs/REFERENCE.md the line below a command is the first that it prints
+commands=0
+while IFS= read -r line && IFS= read -r due; do
+    commands=$((commands + 1))
+    same "$(eval "$line" | head -n 1)" "$due" "$line"
+done < <(sed -n '/^    host\/lcdshot /{N; s/^    \(.*\)\n    /\1\n/p}' docs/REFERENCE.md)
+same "$commands" 3 'all commands of the reference were found'
 cd ..

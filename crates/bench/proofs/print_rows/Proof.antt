@@ -1,5 +1,4 @@
--- `bench::print_rows` is safe and ends: the rows still to print are the measure, and the row buffer keeps its length. Assumes
--- nothing.
+-- `bench::print_rows` is safe and ends: the rows still to print are the measure, and the row buffer keeps its length.
 use Prim.Native.Nat.{_-_, _≤_}
 use borrow.Author.Needs.{needs}
 use lib.ListN.{length, length-take}

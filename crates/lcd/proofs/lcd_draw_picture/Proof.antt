@@ -7,7 +7,7 @@ use Rattle.registers.specs.Loading.{load, loaded}
 use Rattle.lcd.proofs.lcd_draw_picture.Statement.{statement}
 use Rattle.lcd.proofs.lcd_draw_picture.Tie as tie
 
--- where the words are nine
+-- with nine words
 abbrev nine : tie.After-draw-picture → tie.After-w
 nine c = c .before .before .before
 

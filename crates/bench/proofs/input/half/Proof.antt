@@ -1,4 +1,4 @@
--- `bench::input::half` meets its contract: the second byte over the first.
+-- `bench::input::half` meets its contract: the second byte lies above the first.
 use mathlib.Core.Path.{_∙_}
 use native.Mathlib.Nat.{add-zero}
 use native.Mathlib.Omega.{arith}

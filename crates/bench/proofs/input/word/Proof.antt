@@ -1,4 +1,4 @@
--- `bench::input::word` meets its contract: each byte over those before it.
+-- `bench::input::word` meets its contract: each byte lies above those before it.
 use mathlib.Core.Path.{_∙_}
 use native.Mathlib.Nat.{add-zero}
 use native.Mathlib.Omega.{arith}

@@ -1,4 +1,4 @@
--- `bench::output::spell_colour` meets its contract: a digit a turn.
+-- `bench::output::spell_colour` meets its contract: each turn of the loop stores one digit.
 use mathlib.Core.Path.{refl, ap, _∙_}
 use Prim.Native.Nat.{ℕ, _-_, _/_, _%_, _≤_}
 use native.Mathlib.Omega.{arith}

@@ -1,4 +1,4 @@
--- `bench::output::spell_row` meets its contract: a turn stores six digits and what stands behind them.
+-- `bench::output::spell_row` meets its contract: a turn of the loop stores six digits and what follows them.
 use mathlib.Core.Path.{sym, ap, _∙_}
 use Prim.Native.Nat.{ℕ, _+_, _*_, _-_, _≤_}
 use native.Mathlib.Omega.{arith}

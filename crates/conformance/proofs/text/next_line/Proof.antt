@@ -1,4 +1,4 @@
--- `conformance::text::next_line` is safe and answers a later place, where it is asked inside the text.
+-- `conformance::text::next_line` is safe, and for a place inside the text answers a later one.
 use borrow.Author.Needs.{needs}
 use native.Mathlib.Omega.{arith}
 use Rattle.conformance.proofs.text.next_line.Statement.{statement}

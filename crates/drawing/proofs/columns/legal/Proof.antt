@@ -11,7 +11,7 @@ use Rattle.drawing.specs.Core.{Sized, Legal}
 use Rattle.drawing.proofs.columns.legal.Statement.{statement}
 use Rattle.drawing.proofs.columns.legal.Tie as tie
 
--- a swap that is set is the mode's
+-- a swap that is set is legal
 is-legal : (swap legal : Bool) → not swap || legal ≡ true → swap ≡ true → legal ≡ true
 is-legal true legal e t = e
 is-legal false legal e t = absurd (true≢false (sym t))

@@ -41,7 +41,7 @@ to-next-word-requires c κs = (
   omega (arith, c .width .ensures, mod-lt (start c .args .first) {m = c .width .result} (omega arith)),
 )
 
--- the bits of what is left are few
+-- the bits of what is left after the head are few
 few : (c : tie.After-least) → (start (sizes c) .args .count - c .least .result) * sizes c .before .before .format-of .result .bits ≤ 2097152 * 32
 few c =
     let s = start (sizes c) in
@@ -50,7 +50,7 @@ few c =
     (omega (arith, s .pre .1, product-le (width w) 2048 (height w) 1024 (omega arith) (omega arith)))
     (bits-le _ (legal (sizes c) .stores .sized))
 
--- those past the last word
+-- the pixels past the last whole word
 tail-is : (c : tie.After-least)
     → (start (sizes c) .args .count - c .least .result) * sizes c .before .before .format-of .result .bits % 32 / sizes c .before .before .format-of .result .bits
     ≡ (start (sizes c) .args .count - c .least .result) % perWord (format (start (sizes c) .args .s .words))
@@ -69,18 +69,18 @@ draw-few-requires c κs =
     let s = start (sizes (c .before)) in
     (omega (arith, s .pre .1, c .before .least .ensures), omega (arith, s .pre .2, c .before .least .ensures))
 
--- a word's begin, by the words and by what was read of them
+-- where a word begins by the format and width that were read, one begins by those of the words
 aligned : (f g : Format) → f ≡ g → (m k : ℕ) → m ≡ k → (first t : ℕ) → (first % m + t) % perWord f ≡ 0 → (first % k + t) % perWord g ≡ 0
 aligned f g e m k e′ first t h = rw (← e, ← e′) h
 
--- every number is small
+-- pixel numbers are small
 small : (c : tie.After-least) → start (sizes c) .args .first + start (sizes c) .args .count ≤ 2097152
 small c =
     let s = start (sizes c) in
     let w = s .args .s .words in
     omega (arith, s .pre .1, product-le (width w) 2048 (height w) 1024 (omega arith) (omega arith))
 
--- by rows from a word's begin to a word's end
+-- the rows begin and end with a word
 draw-rows-requires : tie.Need-draw-rows-requires
 draw-rows-requires c κs =
     let h = drew-head (c .before) in

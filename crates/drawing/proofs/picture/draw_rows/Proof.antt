@@ -78,7 +78,7 @@ turn c =
       takes = rw (← sizes (c .before) .width .ensures) (c .least .ensures);
     }
 
--- whole words of the row
+-- a turn draws whole words of the row
 turn-whole : (c : tie.After-least Inv-loop μ-loop) → perWord (format (start (sizes (c .before)) .args .s .words)) ∣ c .least .result
 turn-whole c =
     let at = c .before .before .loop in

@@ -13,7 +13,7 @@ use Rattle.drawing.proofs.picture.draw_stretch.Tie as tie
 abbrev start : tie.After-least2 → tie.Start
 start c = c .before .before .before .before .before .before .before
 
--- so many are drawn
+-- as many are drawn as fit
 count-is : (c : tie.After-least2)
     → c .least2 .result ≡ fitting (start c .args .s .words) (start c .args .first) (start c .args .count) (length (start c .args .picture .now))
 count-is c =
@@ -28,7 +28,7 @@ count-is c =
 abbrev lent : tie.Start → Lent
 lent s = lending (s .args .video .now) (s .args .palette .now)
 
--- so many drawn are as many as fit
+-- drawing that many is drawing the stretch
 drawn : (c : tie.After-least2) (left : List ℕ)
     → left ≡ pixelsStored (start c .args .s) (lent (start c)) (start c .args .first) (c .least2 .result) (start c .args .picture .now)
     → left ≡ drawStretch (start c .args .s) (lent (start c)) (start c .args .first) (start c .args .count) (start c .args .picture .now)

@@ -41,7 +41,7 @@ draw-columns-requires c κs =
       omega (arith, s .pre .3),
     )
 
--- nothing is looked up
+-- where nothing is looked up, any table will do
 plain : (c : tie.Else1) (table : _) → Expanded (start (c .before) .args .f) (start (c .before) .args .palette .now) table
 plain c table = no-table (start (c .before) .args .f) _ table (sym (c .before .looked-up .ensures) ∙ c .if1 .left)
 

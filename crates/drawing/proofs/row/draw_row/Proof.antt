@@ -15,7 +15,7 @@ use Rattle.drawing.proofs.row.draw_row.Tie as tie
 abbrev start : tie.After-judge-row → tie.Start
 start c = c .before .before .before .before
 
--- where the judgement lets pass
+-- the branch in which nothing is refused
 abbrev passed : tie.After-width → tie.Else1
 passed c = c .before .before .before
 

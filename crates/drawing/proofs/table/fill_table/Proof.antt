@@ -18,7 +18,7 @@ use Rattle.drawing.specs.Core.{Expanded}
 use Rattle.drawing.proofs.table.fill_table.Statement.{statement}
 use Rattle.drawing.proofs.table.fill_table.Tie as tie
 
--- an entry that is not lent is black
+-- an entry that is not lent counts as 0, and its colour is black
 black : (e : Expansion) → expanded e 0 ≡ 0
 unfolding expanded expanded565 expanded5551
 black Rgb565 = refl
@@ -28,7 +28,7 @@ black Rgb5551 = refl
 abbrev was : List ℕ
 was = replicate 256 0
 
--- a table with the colours of so many indices as the palette has
+-- a table with the colours of as many indices as the palette has entries for
 module _ (f : Format) (palette table : List ℕ) (n m : ℕ) (many : f .tpalen ≡ false → f .bits ≤ 8 → n ≡ 2 ^ f .bits) (few : n ≤ 256)
     (is : m ≡ min n (length palette)) (e : table ≡ stores (indexed f palette) 0 m was) where
   entry : (v : ℕ) → v < n → getD table v 0 ≡ indexed f palette v

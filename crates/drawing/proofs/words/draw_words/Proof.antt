@@ -21,7 +21,7 @@ start-of c = c .before .before .before
 
 -- ---- the arms
 
--- what an arm of indices asks, at s bits
+-- what an arm of indices requires, at s bits
 asks : (start : tie.Start) (s : ℕ) → start .args .f .bits ≡ s → 0 < s → s * (32 / s) ≡ 32 → s ≤ 8
     → Fits s (start .args .n) (start .args .at) (start .args .out .now)
     × (2 ^ s ≤ length (start .args .table .now))

@@ -7,7 +7,7 @@ use Rattle.lcd.specs.Pixel.{drawPixel}
 use Rattle.lcd.proofs.pixel.lcd_draw_pixel.Statement.{statement}
 use Rattle.lcd.proofs.pixel.lcd_draw_pixel.Tie as tie
 
--- where the words are nine
+-- with nine words
 abbrev nine : tie.After-draw-pixel-in → tie.After-w
 nine c = c .before .before .before
 

@@ -10,7 +10,7 @@ use Rattle.pixels.proofs.colours.expand_5551.Tie as tie
 low-six : (v : ℕ) → bits 5 0 v * 2 ^ 2 ≡ bits 5 1 v * 2 ^ 3 + bits 0 0 v * 2 ^ 2
 low-six v = omega arith
 
--- from the order of the lines to the paper's
+-- from the order of the lines to the definition's
 reordered : (red vd18 green vd10 blue vd2 : ℕ)
     → red + (vd18 + (green + (vd10 + (blue + vd2)))) ≡ red + green + blue + (vd18 + vd10 + vd2)
 reordered red vd18 green vd10 blue vd2 = omega arith

@@ -11,7 +11,7 @@ use Rattle.scanout.proofs.refusals.judge_change.Tie as tie
 abbrev start : tie.After-lower → tie.Start
 start c = c .before .before .before
 
--- the number that the three views give
+-- the number that the three viewports give
 of-views : (c : tie.After-lower)
     → c .lower .result
     ≡ lowest (stateCases (start c .args .s) (start c .args .lent) ++ viewportCases (start c .args .s) (start c .args .v) (start c .args .lent))

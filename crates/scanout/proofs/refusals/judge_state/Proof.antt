@@ -13,7 +13,7 @@ use Rattle.scanout.specs.declared.state.State.{State}
 use Rattle.scanout.proofs.refusals.judge_state.Statement.{statement}
 use Rattle.scanout.proofs.refusals.judge_state.Tie as tie
 
--- where the two views are the same, their numbers are
+-- where the two viewports are the same, so are their numbers
 same-views : (s : State) (lent : ℕ)
     → eqb (s .screen .words .lcdsaddr1) (s .pending .lcdsaddr1) && eqb (s .screen .words .lcdsaddr2) (s .pending .lcdsaddr2) ≡ true
     → lowest (viewportCases s (s .pending) lent) ≡ lowest (memoryCases (s .screen) lent)

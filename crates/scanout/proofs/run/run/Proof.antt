@@ -38,7 +38,7 @@ returns c =
     ap₂ running (gives-refusal _ _ _ (judged-is (c .before)) (c .if1 .taken))
     (ap (λ (o : Outcome). o .left) (leaves-as-it-was _ _ _ _ (judged-is (c .before)) (c .if1 .taken)))
 
--- what it lets pass
+-- past it nothing is refused
 lets : (c : tie.Else1) → judgeRun (start (c .before) .args .s) (lent (start (c .before))) (start (c .before) .args .picture .now) ≡ 0
 lets c = sym (judged-is (c .before)) ∙ c .if1 .left
 
