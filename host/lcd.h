@@ -41,7 +41,7 @@ enum { LCD_REGISTERS = 9, LCD_PALETTE_ENTRIES = 256 };
     R(3, "BPPMODE is outside 8..13")                                                                                               \
     R(4, "BSWP or HWSWP is set where the mode doesn't allow it")                                                                   \
     R(5, "a row in memory doesn't fit the width: 16 x PAGEWIDTH differs from W x S, or LCDBASEU, PAGEWIDTH or OFFSIZE is odd")     \
-    R(6, "LCDBASEL isn't the picture's end: LCDBASEU + (PAGEWIDTH + OFFSIZE) x H, modulo 2^21")                                    \
+    R(6, "LCDBASEL isn't where a row after the last would begin: LCDBASEU + (PAGEWIDTH + OFFSIZE) x H, modulo 2^21")               \
     R(7, "the picture runs past its bank: LCDBASEU + (H - 1) x (PAGEWIDTH + OFFSIZE) + PAGEWIDTH exceeds 2^21")                    \
     R(8, "the picture doesn't lie whole in the video memory given, or the memory's start is no multiple of 4")                     \
     R(9, "video is off: ENVID is 0")                                                                                               \

@@ -88,7 +88,7 @@ static bool rows_do_not_fit(const uint32_t *words) {
            field(words, LCD_PAGEWIDTH) % 2 == 1 || field(words, LCD_OFFSIZE) % 2 == 1;
 }
 
-/* 6 (§3.5): LCDBASEL is not the picture's end */
+/* 6 (§3.5): LCDBASEL is not where a row after the last would begin */
 static bool lcdbasel_differs(const uint32_t *words) {
     uint64_t row_length = field(words, LCD_PAGEWIDTH) + field(words, LCD_OFFSIZE);
     uint64_t end = field(words, LCD_LCDBASEU) + row_length * height(words);

@@ -10,7 +10,7 @@
 /* The nine words in order (§1.1). */
 enum { LCDCON1, LCDCON2, LCDCON3, LCDCON4, LCDCON5, LCDSADDR1, LCDSADDR2, LCDSADDR3, TPAL };
 
-/* A field's number: its word shifted down and masked (§1.4). */
+/* A field's number: its word shifted down and masked (§1.2). */
 static inline uint64_t field(const uint32_t *words, int name) {
     return (words[model_fields[name].word] >> model_fields[name].low) & model_limit(name);
 }

@@ -1,6 +1,6 @@
 -- The worked cases T1 to T11 (§13.1), all under one claim. A row of the table holds what the definitions give and the numbers that the
 -- case expects. What the rows compute has a name here; its `unfolding` line lists the definitions that it computes with, so that they
--- unfold wherever it does.
+-- unfold wherever it does. It is the claim, so a reader must believe its table.
 use mathlib.Core.Bool.{Bool, true, false, _&&_}
 use mathlib.Core.List.{List, [], _∷_, map}
 use mathlib.Core.Path.{_≡_}

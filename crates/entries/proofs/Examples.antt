@@ -1,5 +1,5 @@
--- The entries (§10.2) checked against independent numbers: each field's entry, by its number in the C header, has the bits of its mask in
--- the chip's manual (§14.3).
+-- The entries (§10.2) checked against independent numbers: each field's entry, by its number in the C header, has the bits of its mask,
+-- written out from those that the chip's manual names (§14.3).
 use mathlib.Core.List.{List, [], _∷_}
 use Prim.Native.Nat.{ℕ}
 use lib.Dec.{T}

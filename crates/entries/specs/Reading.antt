@@ -8,7 +8,7 @@ use Rattle.registers.specs.declared.Words.{Words}
 use Rattle.fields.specs.Reading.{read}
 use Rattle.entries.specs.Order.{fieldEntries}
 
--- 1, then 10 (§10.2): fewer than 34 entries for the fields
+-- 1, then 10 (§9.3): fewer than 34 entries for the fields
 unfoldable pub readFieldsOf : Words → List ℕ → Outcome
 readFieldsOf w out = outcomeOn (read w) out (λ f. putEntries (fieldEntries f) out)
 

@@ -11,7 +11,7 @@ use Rattle.fields.specs.Writing.{write}
 use Rattle.fields.specs.declared.Fields.{Fields}
 use Rattle.entries.specs.Order.{fieldsIn}
 
--- 10 (§10.2): fewer than 34 entries for the fields, or fewer than nine for the words
+-- 10 (§9.3): fewer than 34 entries for the fields, or fewer than nine for the words
 unfoldable pub tooFew : List ℕ → List ℕ → Bool
 tooFew fields out = tooShort (length fields) 34 || tooShort (length out) 9
 

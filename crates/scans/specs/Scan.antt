@@ -37,7 +37,7 @@ entriesOf s =
 unfoldable pub putState : State → List ℕ → List ℕ
 putState s scan = begunWith (entriesOf s) scan
 
--- 10 (§10.4): fewer than 13 entries for the state
+-- 10 (§9.3): fewer than 13 entries for the state
 abbrev pub shortOfState : List ℕ → Bool
 shortOfState scan = tooShort (length scan) 13
 
@@ -68,7 +68,7 @@ levels k = k .vsync ∷ k .hsync ∷ k .vden ∷ k .vd ∷ []
 unfoldable pub putLevels : Clock → List ℕ → List ℕ
 putLevels k clock = begunWith (levels k) clock
 
--- 10 (§10.4): fewer than four entries for the levels
+-- 10 (§9.3): fewer than four entries for the levels
 abbrev pub shortOfLevels : List ℕ → Bool
 shortOfLevels clock = tooShort (length clock) 4
 
@@ -99,7 +99,7 @@ stepScan scan memory palette clock =
 
 -- ---- run (§7.4)
 
--- 10 (§10.4): no entry for the count
+-- 10 (§9.3): no entry for the count
 abbrev pub shortOfCount : List ℕ → Bool
 shortOfCount taken = tooShort (length taken) 1
 

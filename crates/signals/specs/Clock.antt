@@ -13,7 +13,7 @@ use Rattle.signals.specs.declared.parts.Part.the-variants.{Sync, BackPor
 use Rattle.signals.specs.declared.pixel.Spot.{Spot}
 use Rattle.signals.specs.declared.pixel.Spot.the-variants.{Pixel, Blank}
 
--- a level (§6.7): 1 where the signal is active, else 0; exchanged where the signal's INV bit is set
+-- a level (§6.7): 1 where the signal is active, else 0; inverted where the signal's INV bit is set
 unfoldable pub level : ℕ → Bool → ℕ
 level invert active = cond (eqb invert 1) (cond active 0 1) (cond active 1 0)
 

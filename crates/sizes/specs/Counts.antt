@@ -15,7 +15,7 @@ use Rattle.registers.specs.declared.Words.{Words}
 abbrev pub numbers : Words → ℕ → List ℕ
 numbers w hclk = frameClocks (timing w) ∷ frameTicks w ∷ frameMillihertz w hclk ∷ []
 
--- 10 (§10.3): fewer than three entries for the counts
+-- 10 (§9.3): fewer than three entries for the counts
 unfoldable pub putCounts : Words → ℕ → List ℕ → Outcome
 putCounts w hclk out =
     outcome (lowest (10 when tooShort (length out) 3 ∷ [])) out (stores (λ i. getD (numbers w hclk) i 0) 0 3 out)

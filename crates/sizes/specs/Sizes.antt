@@ -25,7 +25,7 @@ frameSizes w = (vspw w + 1) ∷ (vbpd w + 1) ∷ (vfpd w + 1) ∷ frameLines (ti
 abbrev pub sizes : Words → List ℕ
 sizes w = pictureSizes w ++ lineSizes w ++ frameSizes w
 
--- 1, as for reading fields, then 10 (§10.3): fewer than 12 entries for the sizes
+-- 1, as for reading fields, then 10 (§9.3): fewer than 12 entries for the sizes
 unfoldable pub readSizesOf : Words → List ℕ → Outcome
 readSizesOf w out = outcomeOn (judged (lowest (1 when reservedBit w ∷ [])) (sizes w)) out (λ s. putEntries s out)
 

@@ -1,4 +1,4 @@
--- `signals::clock::level` meets its contract: a level is 0 where being active and being exchanged agree.
+-- `signals::clock::level` meets its contract: a level is 0 where being active and being inverted agree.
 use mathlib.Core.Bool.{Bool, true, false, cond, Bool·beq}
 use mathlib.Core.Path.{_≡_}
 use Prim.Native.Nat.{ℕ}
