@@ -1,4 +1,4 @@
--- What a reader holds, and what a lookup through it gives (§12.1). Promises cite it, so a reader must believe it.
+-- What a reader holds, and what a lookup through it gives (§12.1). Promises cite these definitions, so they are to be believed.
 use mathlib.Core.List.{List}
 use Prim.Native.Nat.{ℕ}
 use denote.Ref.{RefT, now}

@@ -1,5 +1,6 @@
--- Each field by its mask, written out from the bits that the chip's manual names (§14.3), tried on the definitions: with the mask's bits set the field is all ones, with
--- every other bit set it is 0. So a field at another place is refused even where the layout and the code agree on it.
+-- Each field by its mask, written out from the bits that the chip's manual names (§14.3), tried on the definitions: with the mask's
+-- bits set the field is all ones, with every other bit set it is 0. So a field at another place is refused even where the layout and
+-- the code agree on it.
 use mathlib.Core.Bool.{Bool, true, _&&_}
 use mathlib.Core.List.{List, [], _∷_}
 use Prim.Native.Nat.{ℕ, _-_}

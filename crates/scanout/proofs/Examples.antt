@@ -96,7 +96,7 @@ abbrev line : ℕ → ℕ → ℕ → List ℕ
 line vsync vden vd =
     vsync ∷ 1 ∷ 0 ∷ 0 ∷ vsync ∷ 0 ∷ 0 ∷ 0 ∷ vsync ∷ 0 ∷ vden ∷ vd ∷ vsync ∷ 0 ∷ 0 ∷ 0 ∷ []
 
--- the same with the levels of HSYNC and VDEN exchanged and the data complemented
+-- the same with the levels of HSYNC and VDEN inverted and the data complemented
 abbrev exchanged : ℕ → ℕ → ℕ → List ℕ
 exchanged vsync vden vd =
     vsync ∷ 0 ∷ 1 ∷ 0xFFFFFF ∷ vsync ∷ 1 ∷ 1 ∷ 0xFFFFFF ∷ vsync ∷ 1 ∷ vden ∷ vd ∷ vsync ∷ 1 ∷ 1 ∷ 0xFFFFFF ∷ []
