@@ -12,24 +12,25 @@ use Rattle.laws.specs.Booleans.{someBelow}
 use Rattle.laws.specs.Cases.{lowest, lower}
 use Rattle.laws.specs.Storing.{stores}
 use Rattle.registers.specs.Fields as Field
-use Rattle.registers.specs.Fields.{bppmode, pagewidth, reservedBit}
+use Rattle.registers.specs.Fields.{bppmode, pagewidth, stn, reservedBit}
 use Rattle.registers.specs.Loading.{nineWords, load, tooShort, shortOfNine}
 use Rattle.registers.specs.declared.Words.{Words}
 use Rattle.fields.specs.Writing.{write, fieldTooWide}
 use Rattle.fields.specs.declared.Fields.{Fields}
-use Rattle.panel.specs.Counts.{counts, rate, frameTicks}
-use Rattle.panel.specs.Geometry.{width, height, storedBits, outsideModes, rowOffset}
-use Rattle.panel.specs.Refusals.{judge, accept, notTft, noSuchMode, swapsIllegal, rowSizeWrong, endDiffers, pastBank, videoOff}
+use Rattle.panel.specs.Counts.{acceptTimed, timedWords, counts, rate, frameTicks, panelClocks, panelTicks}
+use Rattle.panel.specs.Geometry.{width, height, storedBits, outsideModes, panelBits, panelWidth, rowOffset}
+use Rattle.panel.specs.Refusals.{judge, judgeEither, accept, notTft, neitherPanel, noSuchMode, swapsIllegal, rowSizeWrong, endDiffers, pastBank, videoOff, clockTooFast}
 use Rattle.panel.specs.Timing.{lineClocks, frameLines, frameClocks}
 use Rattle.panel.specs.declared.frame.Counts.{Counts}
 use Rattle.panel.proofs.Examples as Panel
 use Rattle.pixels.specs.Colours.{expanded, expanded565, expanded5551, cut24}
 use Rattle.pixels.specs.Format.{format, expansionOf}
 use Rattle.pixels.specs.Order as Order
+use Rattle.pixels.specs.Order.{storedPixel}
 use Rattle.pixels.specs.Pixel.{shown}
 use Rattle.pixels.specs.declared.colours.Expansion.{Expansion}
 use Rattle.pixels.specs.declared.colours.Expansion.the-variants.{Rgb565, Rgb5551}
-use Rattle.drawing.specs.Colour.{lending, storedPixel, rowColour, colour}
+use Rattle.drawing.specs.Colour.{lending, rowColour, colour}
 use Rattle.drawing.specs.Drawing.{drawRow, drawPicture, colourInOrder, judgeRow, judgePicture, judgeDrawing}
 use Rattle.drawing.specs.Drawing.{paletteWrong, rowOutside}
 use Rattle.memory.specs.declared.Screen.{Screen}
@@ -44,10 +45,10 @@ pub data Name : Type 0 where
 pub record Row : Type 0 where
   pub name : Name
   pub given : List ℕ
-  pub paper : List ℕ
+  pub expected : List ℕ
 
 abbrev row : Name → List ℕ → List ℕ → Row
-row name given paper = record { name = name; given = given; paper = paper }
+row name given expected = record { name = name; given = given; expected = expected }
 
 abbrev pub same : List ℕ → List ℕ → Bool
 same [] [] = true
@@ -57,7 +58,7 @@ same (x ∷ xs) (y ∷ ys) = eqb x y && same xs ys
 
 abbrev pub allHold : List Row → Bool
 allHold [] = true
-allHold (r ∷ rs) = same (r .given) (r .paper) && allHold rs
+allHold (r ∷ rs) = same (r .given) (r .expected) && allHold rs
 
 -- ---- answers as numbers: first the number of the refusal, 0 for none, then the values
 
@@ -143,12 +144,12 @@ t11 hozval = 0x7B ∷ 0 ∷ hozval * 2 ^ 8 ∷ 0 ∷ 0 ∷ 0x18000000 ∷ 2046 �
 
 -- the judgement of nine words by 1 to 7 (§9.3)
 unfoldable pub judgement : List ℕ → ℕ
-unfolding judge lowest lower reservedBit notTft noSuchMode outsideModes swapsIllegal storedBits rowSizeWrong endDiffers pastBank rowOffset
+unfolding judge lowest lower reservedBit stn notTft noSuchMode outsideModes swapsIllegal storedBits panelBits panelWidth rowSizeWrong endDiffers pastBank rowOffset
 judgement words = judge (nineWords words)
 
 -- clocks and ticks of a frame (§6.3), and its rate at an HCLK (§6.4)
 unfoldable pub counted : List ℕ → List ℕ
-unfolding judgement counts mapped accept andThen load shortOfNine judged lineClocks frameLines frameClocks frameTicks
+unfolding judgement counts mapped acceptTimed timedWords accept judgeEither neitherPanel clockTooFast andThen load shortOfNine judged lineClocks frameLines frameClocks frameTicks panelClocks panelTicks
 counted words = answered clocksAndTicks (counts words)
 
 unfoldable pub rated : List ℕ → ℕ → List ℕ

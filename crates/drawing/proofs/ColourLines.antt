@@ -14,7 +14,8 @@ use Rattle.memory.specs.Memory.{firstWord}
 use Rattle.memory.specs.declared.Screen.{Screen}
 use Rattle.pixels.specs.declared.colours.Expansion.{Expansion}
 use Rattle.pixels.specs.declared.colours.Expansion.the-variants.{Rgb565, Rgb5551}
-use Rattle.drawing.specs.Colour.{Lent, storedPixel, rowColour, colour}
+use Rattle.pixels.specs.Order.{storedPixel}
+use Rattle.drawing.specs.Colour.{Lent, rowColour, colour}
 
 expanded-lines : (e : Expansion) (v : ℕ) → expanded e v < 2 ^ 24
 unfolding expanded expanded565 expanded5551

@@ -23,11 +23,11 @@ use Rattle.pixels.specs.Pixel.{indexed, shown}
 use Rattle.pixels.specs.declared.format.Format.{Format}
 use Rattle.registers.specs.Fields as Fields
 use Rattle.registers.specs.declared.Words.{Words}
-use Rattle.pixels.specs.Order.{inOrder, pixelBits}
+use Rattle.pixels.specs.Order.{inOrder, pixelBits, storedPixel}
 use Rattle.pixels.proofs.PixelOrder.{pixel-past}
-use Rattle.drawing.specs.Colour.{storedPixel, rowColour}
+use Rattle.drawing.specs.Colour.{rowColour}
 use Rattle.drawing.specs.Core.{Sized, Stores, Legal, lookedUp, Expanded, Fits}
-use Rattle.drawing.proofs.Pixels.{pixel-inside, stored-lt}
+use Rattle.pixels.proofs.StoredPixels.{pixel-inside, stored-lt}
 
 -- ---- the six sizes, and none
 

@@ -1,24 +1,22 @@
 -- What an accepted drawing's judgement (§9.3) says of the rows in memory and of the slice that is drawn to.
-use mathlib.Core.Bool.{Bool, false, not, _||_}
+use mathlib.Core.Bool.{Bool}
 use mathlib.Core.List.{[], _∷_}
-use mathlib.Core.Path.{_≡_, sym, ap, _∙_, subst}
-use Prim.Native.Nat.{ℕ, _+_, _-_, _*_, _/_, _%_, _<_, _≤_, _∣_}
+use mathlib.Core.Path.{_≡_, sym, ap, subst}
+use Prim.Native.Nat.{ℕ, _/_, _<_, _≤_, _∣_}
 use native.Mathlib.Nat.{dvd-mul-left, mul-div-cancel}
 use native.Mathlib.Omega.{arith}
 use borrow.Author.Tests.{ltb-false, leb-false}
-use lib.Dec.{eqb}
-use Rattle.laws.specs.BooleanLaws.{or-false, or-false-left, or-false-right}
+use Rattle.laws.specs.BooleanLaws.{or-false-right}
 use Rattle.laws.specs.Cases.{_when_, lowest}
 use Rattle.laws.specs.CaseLaws.{NoneHolds, both-pass}
 use Rattle.panel.specs.Geometry.{width, height}
 use Rattle.panel.specs.Refusals.{wordCases, judge}
 use Rattle.panel.proofs.Accepted.{Accepted, accepted-words, pixels-in-row}
 use Rattle.pixels.specs.Format.{format}
-use Rattle.registers.specs.Fields.{pagewidth}
 use Rattle.registers.specs.Loading.{tooShort}
-use Rattle.memory.specs.Memory.{rowAddress, rowWords, outsideMemory, memoryCases, firstWord}
+use Rattle.memory.specs.Memory.{rowWords, outsideMemory, memoryCases}
 use Rattle.memory.specs.declared.Screen.{Screen}
-use Rattle.memory.proofs.Window.{rows-rise, row-at-word, beforeWindow, pastWindow, closed-form, start-at-word, start-before}
+use Rattle.memory.proofs.Window.{row-words-lent}
 use Rattle.drawing.specs.Core.{perWord, ByRows}
 use Rattle.drawing.specs.Drawing.{paletteWrong, rowOutside, pixels, colourTail, drawingCases, judgeDrawing, judgeRow, judgePicture}
 use Rattle.drawing.proofs.Formats.{bits-fill, per-word-pos, legal-format}
@@ -43,38 +41,6 @@ module _ (s : Screen) (lent : ℕ) (e : lowest (memoryCases s lent) ≡ 0) where
   a : Accepted (s .words)
   a = accepted-words (s .words) words-pass
 
-  misplaced : Bool
-  misplaced = not (eqb (s .«window_start» % 4) 0)
-
-  parts : misplaced || (beforeWindow (s .words) (s .«window_start») || pastWindow (s .words) (s .«window_start») lent) ≡ false
-  unfolding misplaced
-  parts = sym (closed-form (s .words) a (s .«window_start») lent) ∙ cases .1 .0
-
-  ends : beforeWindow (s .words) (s .«window_start») || pastWindow (s .words) (s .«window_start») lent ≡ false
-  ends = or-false-right misplaced (beforeWindow (s .words) (s .«window_start») || pastWindow (s .words) (s .«window_start») lent) parts
-
-  early : not (eqb (s .«window_start» % 4) 0) || beforeWindow (s .words) (s .«window_start») ≡ false
-  unfolding misplaced
-  early =
-      or-false
-      (or-false-left misplaced (beforeWindow (s .words) (s .«window_start») || pastWindow (s .words) (s .«window_start») lent) parts)
-      (or-false-left (beforeWindow (s .words) (s .«window_start»)) (pastWindow (s .words) (s .«window_start») lent) ends)
-
-  row-words-inside : (r : ℕ) → r < height (s .words) → firstWord s r + rowWords (s .words) ≤ lent
-  unfolding firstWord
-  row-words-inside r h =
-      omega (
-        arith,
-        start-at-word (s .words) a (s .«window_start») lent early,
-        start-before (s .words) a (s .«window_start») lent early,
-        row-at-word (s .words) a r,
-        a .row-even,
-        rows-rise (s .words) 0 r (omega arith),
-        rows-rise (s .words) r (height (s .words) - 1) (omega arith),
-        ltb-false (s .«window_start» + 4 * lent) (rowAddress (s .words) (height (s .words) - 1) + 2 * pagewidth (s .words))
-            (or-false-right (beforeWindow (s .words) (s .«window_start»)) (pastWindow (s .words) (s .«window_start») lent) ends),
-      )
-
   pub rows-accepted : ByRows s lent
   unfolding format
   rows-accepted =
@@ -86,7 +52,7 @@ module _ (s : Screen) (lent : ℕ) (e : lowest (memoryCases s lent) ≡ 0) where
         inside = λ r h.
             omega (
               arith,
-              row-words-inside r h,
+              row-words-lent s lent (a .laid) (cases .1 .0) r h,
               ap (λ (k : ℕ). k / perWord (format (s .words))) per-row,
               mul-div-cancel (rowWords (s .words))
                   (per-word-pos (format (s .words) .bits) (legal .stores .some) (bits-fill (format (s .words)) (legal .stores))),

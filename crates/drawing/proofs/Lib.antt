@@ -3,6 +3,5 @@ pub mod Formats
 pub mod Judged
 pub mod Numbers
 pub mod Parts
-pub mod Pixels
 pub mod Rows
 pub mod Touched

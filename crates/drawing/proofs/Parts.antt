@@ -14,9 +14,10 @@ use Rattle.panel.specs.Geometry.{width, height}
 use Rattle.pixels.specs.Format.{format}
 use Rattle.pixels.specs.Pixel.{shown}
 use Rattle.pixels.specs.declared.format.Format.{Format}
+use Rattle.pixels.specs.Order.{storedPixel}
 use Rattle.memory.specs.Memory.{firstWord}
 use Rattle.memory.specs.declared.Screen.{Screen}
-use Rattle.drawing.specs.Colour.{storedPixel, rowColour}
+use Rattle.drawing.specs.Colour.{rowColour}
 use Rattle.drawing.specs.Core.{perWord, Columns, InMemory, ByRows, columnsStored}
 use Rattle.drawing.proofs.Formats.{bits-le, bits-fill, per-word-pos, word-of-bit, from-word, shown-colour}
 

@@ -8,12 +8,12 @@ use lib.Dec.{eqb}
 use lib.ListN.{getD}
 use Rattle.pixels.specs.Colours.{expanded, cut24}
 use Rattle.pixels.specs.Format.{format}
-use Rattle.pixels.specs.Order.{inOrder, pixelBits}
+use Rattle.pixels.specs.Order.{inOrder, pixelBits, storedPixel}
 use Rattle.pixels.specs.Pixel.{indexed, shown}
 use Rattle.pixels.specs.declared.format.Format.{Format}
 use Rattle.memory.specs.Memory.{firstWord}
 use Rattle.memory.specs.declared.Screen.{Screen}
-use Rattle.drawing.specs.Colour.{Lent, storedPixel, rowColour, colour}
+use Rattle.drawing.specs.Colour.{Lent, rowColour, colour}
 
 -- the place of the word that holds a pixel
 abbrev pub wordOf : Screen → ℕ → ℕ → ℕ

@@ -1,11 +1,10 @@
 -- The colour of a pixel (§5.5, with §4.1 and §5.4): the one definition that every drawing cites. It is total: a word or an entry that
 -- is not lent counts as 0. Promises cite it, so a reader must believe it.
-use mathlib.Core.Bool.{Bool, cond}
+use mathlib.Core.Bool.{cond}
 use mathlib.Core.List.{List}
-use Prim.Native.Nat.{ℕ, _+_, _/_, _%_}
-use lib.ListN.{getD}
+use Prim.Native.Nat.{ℕ}
 use Rattle.pixels.specs.Format.{format}
-use Rattle.pixels.specs.Order.{inOrder, pixelBits}
+use Rattle.pixels.specs.Order.{storedPixel}
 use Rattle.pixels.specs.Pixel.{indexed, shown}
 use Rattle.pixels.specs.declared.format.Format.{Format}
 use Rattle.memory.specs.Memory.{firstWord}
@@ -18,11 +17,6 @@ pub record Lent : Type 0 where
 
 abbrev pub lending : List ℕ → List ℕ → Lent
 lending memory palette = record { memory = memory; palette = palette }
-
--- the stored bits of pixel c of a row that begins with the memory's word `base` (§4.1): a word holds 32 / s pixels
-unfoldable pub storedPixel : ℕ → Bool → Bool → List ℕ → ℕ → ℕ → ℕ
-storedPixel s bswp hwswp memory base c =
-    pixelBits s (inOrder bswp hwswp (getD memory (base + c / (32 / s)) 0)) (c % (32 / s))
 
 -- its colour, given the colour of each index (§5.5): TPALVAL where TPALEN is set (§5.4), else what the stored bits show
 unfoldable pub rowColour : Format → (ℕ → ℕ) → List ℕ → ℕ → ℕ → ℕ

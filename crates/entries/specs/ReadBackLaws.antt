@@ -1,13 +1,14 @@
 -- The round trip of fields (§1.6), entry by entry: where the writer accepts a slice of fields, reading the words that it left gives the
--- first 34 entries again. The claim is `entries-written-and-read`; it is proved here, so a reader need not believe more than the
--- definitions it names.
+-- first 34 entries again, unless they set a bit that is reserved on an STN panel (§1.7). The claim is `entries-written-and-read`; it is
+-- proved here, so a reader need not believe more than the definitions it names.
+use mathlib.Core.Bool.{false}
 use mathlib.Core.List.{List, [], _∷_}
-use mathlib.Core.Path.{_≡_, sym, ap, _∙_}
+use mathlib.Core.Path.{_≡_, refl, sym, ap, _∙_}
 use Prim.Native.Nat.{ℕ, _≤_}
 use borrow.Author.Tests.{ltb-false}
 use lib.ListN.{length, getD}
 use Rattle.laws.specs.Answers.{accepted, judged, Outcome, leaves}
-use Rattle.laws.specs.AnswerLaws.{writes-on, went-on}
+use Rattle.laws.specs.AnswerLaws.{one-accepts, writes-on, went-on}
 use Rattle.laws.specs.BooleanLaws.{or-false-right}
 use Rattle.laws.specs.Cases.{_when_, lowest}
 use Rattle.laws.specs.CaseLaws.{lowest-zero-none-holds}
@@ -16,7 +17,7 @@ use Rattle.registers.proofs.Lending.{room-for-all, words-put-are-loaded}
 use Rattle.registers.specs.Loading.{load, wordEntries, tooShort, putEntries}
 use Rattle.fields.proofs.RoundTrip as RoundTrip
 use Rattle.fields.specs.Reading.{read}
-use Rattle.fields.specs.Writing.{write, wordsOf, fieldTooWide}
+use Rattle.fields.specs.Writing.{write, wordsOf, fieldTooWide, reservedOnStn}
 use Rattle.entries.specs.Order.{fieldEntries, fieldsIn}
 use Rattle.entries.specs.Reading.{readFieldsOf, readFields}
 use Rattle.entries.specs.Writing.{tooFew, loadFields, writeFieldsOf, writeFields}
@@ -56,12 +57,13 @@ module _ (fields words left : List ℕ) (done : writeFields fields words ≡ lea
       ap (λ (o : Outcome). load (o .left)) (sym (wrote .1) ∙ room-for-all (wordEntries (wordsOf (fieldsIn fields))) words room)
       ∙ words-put-are-loaded (wordsOf (fieldsIn fields)) words room
 
-  pub entries-written-and-read : (out : List ℕ) → 34 ≤ length out
+  pub entries-written-and-read : reservedOnStn (fieldsIn fields) ≡ false → (out : List ℕ) → 34 ≤ length out
       → readFields left out ≡ leaves 0 (stores (λ i. getD fields i 0) 0 34 out)
   unfolding readFields readFieldsOf
-  entries-written-and-read out h =
+  entries-written-and-read clear out h =
       sym
       (writes-on (load left) out (λ w. readFieldsOf w out) (wordsOf (fieldsIn fields)) _ (sym loaded)
       (writes-on (read (wordsOf (fieldsIn fields))) out (λ f. putEntries (fieldEntries f) out) (fieldsIn fields) _
-      (sym (RoundTrip.fields-written-and-read (fieldsIn fields) (wordsOf (fieldsIn fields)) taken))
+      (one-accepts 1 _ _ _ clear refl
+      ∙ sym (RoundTrip.fields-written-and-read (fieldsIn fields) (wordsOf (fieldsIn fields)) taken))
       (sym (entries-of-fields-in fields out h))))

@@ -3,7 +3,7 @@ use mathlib.Core.Path.{_≡_, refl}
 use Prim.Native.Nat.{ℕ}
 use Rattle.laws.specs.Answers.{accepted, refused, judged}
 use Rattle.laws.specs.Cases.{lowest, lower}
-use Rattle.registers.specs.Fields.{reservedBit}
+use Rattle.registers.specs.Fields.{stn, reservedBit}
 use Rattle.registers.specs.declared.Words.{Words}
 use Rattle.fields.specs.Reading.{read}
 use Rattle.fields.specs.Writing.{write, fieldTooWide}
@@ -53,7 +53,7 @@ words =
     }
 
 pub t9 : (write (panel 240) ≡ accepted words) × (read words ≡ accepted (panel 240))
-unfolding write read judged lowest lower fieldTooWide reservedBit
+unfolding write read judged lowest lower fieldTooWide reservedBit stn
 t9 = (refl, refl)
 
 pub one-bit-too-wide : write (panel 2048) ≡ refused 12

@@ -1,23 +1,29 @@
--- The two round trips (§1.6): reading what the writer made gives the fields back, and writing what was read gives the words back with
--- their read-only bits 0. Both follow from the layouts, word by word, by one law each. The only assumption is that each word has 32
--- bits.
-use mathlib.Core.Bool.{false}
-use mathlib.Core.List.{List}
-use mathlib.Core.Path.{_≡_, refl, sym, ap, _∙_}
-use Prim.Native.Nat.{ℕ, _-_, _^_, _<_}
+-- The two round trips (§1.6): reading what the writer made gives the fields back, unless they set a bit that is reserved on an STN panel
+-- (§1.7), and writing what was read gives the words back with their read-only bits 0. Both follow from the layouts, word by word, by one
+-- law each. The only assumption is that each word has 32 bits.
+use mathlib.Core.Bool.{Bool, true, false, _&&_, _||_}
+use mathlib.Core.List.{List, [], _∷_}
+use mathlib.Core.Path.{_≡_, refl, sym, ap, ap₂, _∙_}
+use Prim.Native.Nat.{ℕ, zero, suc, _+_, _-_, _*_, _^_, _<_, _≤_}
+use native.Mathlib.Omega.{arith}
+use borrow.Author.Tests.{lt-ltb, le-ltb, leb-true, leb-false}
+use lib.Dec.{eqb, leb, ltb}
 use lib.ListN.{getD}
-use Rattle.laws.specs.Answers.{accepted}
+use Rattle.laws.specs.Answers.{accepted, judged}
 use Rattle.laws.specs.AnswerLaws.{one-accepts, one-accepted}
-use Rattle.laws.specs.BitFields.{readOnlyBits}
+use Rattle.laws.specs.Booleans.{any}
+use Rattle.laws.specs.Cases.{_when_, lowest}
+use Rattle.laws.specs.BitFields.{readOnlyBits, reservedSet, pack, field, reserved}
 use Rattle.laws.specs.BitFieldLaws.{packed-and-read, packed-is-clear, values-narrow, read-and-packed}
-use Rattle.laws.specs.BooleanLaws.{AllFalse, all-false, none-true}
-use Rattle.registers.specs.Fields.{reservedBit, reservedWords}
+use Rattle.laws.specs.BooleanLaws.{AllFalse, all-false, none-true, or-false-left, or-never}
+use Rattle.registers.specs.Fields.{stn, reservedBit, reservedWords, stnReservedWords}
 use Rattle.registers.specs.Layouts.{LCDCON1, LCDCON2, LCDCON3, LCDCON4, LCDCON5, LCDSADDR1, LCDSADDR2, LCDSADDR3, TPAL}
+use Rattle.registers.specs.Layouts.{STN-LCDCON3, STN-LCDCON4, STN-TPAL}
 use Rattle.registers.specs.declared.Words.{Words}
 use Rattle.fields.specs.Core.{FieldsFit}
 use Rattle.fields.proofs.Fitting.{fields-fit}
 use Rattle.fields.specs.Reading.{read, fieldsOf}
-use Rattle.fields.specs.Writing.{write, wordsOf, fieldTooWide, wideWords}
+use Rattle.fields.specs.Writing.{write, wordsOf, fieldTooWide, wideWords, reservedOnStn}
 use Rattle.fields.specs.Writing.{lcdcon1Values, lcdcon2Values, lcdcon3Values, lcdcon4Values, lcdcon5Values}
 use Rattle.fields.specs.Writing.{lcdsaddr1Values, lcdsaddr2Values, lcdsaddr3Values, tpalValues}
 use Rattle.fields.specs.declared.Fields.{Fields}
@@ -111,6 +117,23 @@ tpal-from vs = record { tpalen = getD vs 0 0; tpalval = getD vs 1 0 }
 
 -- ---- fields written and read back
 
+-- a number x that is above 0 exactly where v reaches k
+above-as-test : (k v x : ℕ) → (k ≤ v → 0 < x) → (v < k → x ≤ 0) → ltb 0 x ≡ leb k v
+above-as-test k v x reaches below = go (leb k v) refl
+  where
+    go : (b : Bool) → leb k v ≡ b → ltb 0 x ≡ leb k v
+    go true e = lt-ltb 0 x (reaches (leb-true k v e)) ∙ sym e
+    go false e = le-ltb 0 x (below (leb-false k v e)) ∙ sym e
+
+-- two values of a word that has no other bits: the word is above 0 where one of them is
+both-in-word : (a b : ℕ) → a < 2 → b < 2 ^ 24
+    → ltb 0 (field (reserved 31 0) (0 + (a * 2 ^ 24 + (b * 2 ^ 0 + 0)))) ≡ ltb 0 a || ltb 0 b
+both-in-word zero b h k =
+    let same : field (reserved 31 0) (0 + (zero * 2 ^ 24 + (b * 2 ^ 0 + 0))) ≡ b = omega arith in ap (ltb 0) same
+both-in-word (suc a) b h k =
+    lt-ltb 0 (field (reserved 31 0) (0 + (suc a * 2 ^ 24 + (b * 2 ^ 0 + 0)))) (omega arith)
+    ∙ ap (λ (t : Bool). t || ltb 0 b) (sym (lt-ltb 0 (suc a) (omega arith)))
+
 module _ (f : Fields) (fit : FieldsFit f) where
   same-fields : fieldsOf (wordsOf f) ≡ f
   unfolding lcdcon1-from lcdcon2-from lcdcon3-from lcdcon4-from lcdcon5-from lcdsaddr1-from lcdsaddr2-from lcdsaddr3-from tpal-from
@@ -154,15 +177,38 @@ module _ (f : Fields) (fit : FieldsFit f) where
     ),
   )
 
-  clear : reservedBit (wordsOf f) ≡ false
-  unfolding reservedBit
-  clear = none-true (reservedWords (wordsOf f)) clear-words
+  -- the three words that have another layout on an STN panel
+  lcdcon3-reserved : reservedSet STN-LCDCON3 (pack LCDCON3 (lcdcon3Values (f .lcdcon3))) ≡ leb 4 (f .lcdcon3 .hbpd)
+  lcdcon3-reserved =
+      above-as-test 4 (f .lcdcon3 .hbpd) (field (reserved 31 21) (pack LCDCON3 (lcdcon3Values (f .lcdcon3))))
+      (λ h. omega (arith, fit .lcdcon3)) (λ h. omega (arith, fit .lcdcon3))
 
--- where the writer accepts fields, reading its words gives them back
-pub fields-written-and-read : (f : Fields) (w : Words) → write f ≡ accepted w → read w ≡ accepted f
+  lcdcon4-reserved : reservedSet STN-LCDCON4 (pack LCDCON4 (lcdcon4Values (f .lcdcon4))) ≡ leb 4 (f .lcdcon4 .hspw)
+  lcdcon4-reserved =
+      let x = pack LCDCON4 (lcdcon4Values (f .lcdcon4)) in
+      ap₂ _||_ (or-never (ltb 0 (field (reserved 7 2) x)))
+      (le-ltb 0 (field (reserved 31 16) x) (omega (arith, fit .lcdcon4)))
+      ∙ or-never (ltb 0 (field (reserved 7 2) x))
+      ∙ above-as-test 4 (f .lcdcon4 .hspw) (field (reserved 7 2) x) (λ h. omega (arith, fit .lcdcon4)) (λ h. omega (arith, fit .lcdcon4))
+
+  tpal-reserved : reservedSet STN-TPAL (pack TPAL (tpalValues (f .tpal))) ≡ ltb 0 (f .tpal .tpalen) || ltb 0 (f .tpal .tpalval)
+  tpal-reserved =
+      both-in-word (f .tpal .tpalen) (f .tpal .tpalval) (fit .tpal .1 .0) (fit .tpal .1 .1 .0)
+
+  reserved-on-stn : reservedBit (wordsOf f) ≡ reservedOnStn f
+  unfolding reservedBit reservedOnStn stn
+  reserved-on-stn =
+      ap₂ _||_ (none-true (reservedWords (wordsOf f)) clear-words)
+      (ap₂ _&&_ (ap (λ (g : Fields). eqb (g .lcdcon1 .pnrmode) 2) same-fields)
+      (ap₂ _||_ lcdcon3-reserved (ap₂ _||_ lcdcon4-reserved (ap (λ (b : Bool). b || false) tpal-reserved))))
+
+-- where the writer accepts fields, reading its words gives them back, or 1 where they set a bit that is reserved on an STN panel
+pub fields-written-and-read : (f : Fields) (w : Words) → write f ≡ accepted w
+    → read w ≡ judged (lowest (1 when reservedOnStn f ∷ [])) f
 unfolding write read
 fields-written-and-read f w e =
-    ap read (sym (taken .1)) ∙ sym (one-accepts 1 _ _ _ (clear f fit) (sym (same-fields f fit)))
+    ap read (sym (taken .1))
+    ∙ ap₂ (λ (b : Bool) (g : Fields). judged (lowest (1 when b ∷ [])) g) (reserved-on-stn f fit) (same-fields f fit)
   where
     taken : (fieldTooWide f ≡ false) × (wordsOf f ≡ w)
     taken = one-accepted 12 (fieldTooWide f) (wordsOf f) w tt e
@@ -175,7 +221,7 @@ fields-written-and-read f w e =
 module _ (w : Words) (sizes : Each32 w) (clear-bits : reservedBit w ≡ false) where
   none : AllFalse (reservedWords w)
   unfolding reservedBit
-  none = all-false (reservedWords w) clear-bits
+  none = all-false (reservedWords w) (or-false-left (any (reservedWords w)) (stn w && any (stnReservedWords w)) clear-bits)
 
   same-words : wordsOf (fieldsOf w) ≡ withoutReadOnly w
   same-words =

@@ -1,8 +1,9 @@
 -- The writer (§1.5): words from fields, read-only bits 0 (§1.3); judged by refusal 12 alone (§9.3). Promises cite it, so a reader must
 -- believe it.
-use mathlib.Core.Bool.{Bool}
+use mathlib.Core.Bool.{Bool, _&&_, _||_}
 use mathlib.Core.List.{List, [], _∷_}
 use Prim.Native.Nat.{ℕ}
+use lib.Dec.{eqb, leb, ltb}
 use Rattle.laws.specs.Answers.{Answer, accepted, refused, judged}
 use Rattle.laws.specs.BitFields.{pack, tooWide}
 use Rattle.laws.specs.Booleans.{any}
@@ -100,6 +101,14 @@ wideWords f =
 -- 12 (§1.5): a field does not fit its bits
 unfoldable pub fieldTooWide : Fields → Bool
 fieldTooWide f = any (wideWords f)
+
+-- the fields set a bit that is reserved on the STN panel they select (§1.7): above WDLY in HBPD, above WLH in HSPW, or in TPAL. The
+-- writer does not judge it; reading the words then gives 1 (§1.6)
+unfoldable pub reservedOnStn : Fields → Bool
+reservedOnStn f =
+    eqb (f .lcdcon1 .pnrmode) 2
+    && any
+    (leb 4 (f .lcdcon3 .hbpd) ∷ leb 4 (f .lcdcon4 .hspw) ∷ (ltb 0 (f .tpal .tpalen) || ltb 0 (f .tpal .tpalval)) ∷ [])
 
 -- the words, or 12 (§1.5)
 unfoldable pub write : Fields → Answer Words

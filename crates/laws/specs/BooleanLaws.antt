@@ -1,6 +1,6 @@
 -- Laws of tests that the other files share. A reader need not believe them.
 use mathlib.Core.Path.{_≡_, refl, sym, ap, _∙_}
-use mathlib.Core.Bool.{Bool, true, false, _&&_, _||_, true≢false}
+use mathlib.Core.Bool.{Bool, true, false, cond, _&&_, _||_, true≢false}
 use mathlib.Core.List.{List, [], _∷_}
 use Prim.Native.Nat.{ℕ, zero, suc, _<_}
 use native.Mathlib.Decide.{ℕ-discrete}
@@ -78,3 +78,11 @@ each-below n p e i h = go (p i) refl
     go : (b : Bool) → p i ≡ b → p i ≡ false
     go true t = absurd (true≢false (sym (one-below n p i h t) ∙ e))
     go false t = t
+
+-- ---- a branch: what it gives, where its test r is that of a choice
+
+pub chosen : {A : Type 0} {r b : Bool} {v x : A} (y : A) → r ≡ b → r ≡ true → v ≡ x → v ≡ cond b x y
+chosen {x} y e t p = p ∙ ap (λ (k : Bool). cond k x y) (sym t ∙ e)
+
+pub not-chosen : {A : Type 0} {r b : Bool} {v y : A} (x : A) → r ≡ b → r ≡ false → v ≡ y → v ≡ cond b x y
+not-chosen {y} x e t p = p ∙ ap (λ (k : Bool). cond k x y) (sym t ∙ e)

@@ -6,7 +6,7 @@ ghost use Rattle.drawing.specs.Colour.{lending};
 ghost use Rattle.laws.specs.Answers.{leaves};
 ghost use Rattle.memory.specs.Memory.{check};
 ghost use Rattle.sizes.specs.Counts.{readCounts};
-ghost use Rattle.lcd.specs.Calls.{drawRow, drawPicture};
+ghost use Rattle.lcd.specs.Calls.{drawRow, drawPicture, drawStn};
 use drawing::picture::draw_picture;
 use drawing::row::draw_row;
 use memory::Screen;
@@ -14,12 +14,14 @@ use memory::check;
 use registers::Loaded;
 use registers::load;
 use sizes::counts::read_counts;
+use stn::draw_stn;
 
 pub mod pixel;
 pub mod reading;
 pub mod scan;
 
-// The check of the words against the lent memory (§3.6). Refusals: 10 for `words` with fewer than nine entries, 1 to 8.
+// The check of the words against the lent memory (§3.6). Refusals: 10 for `words` with fewer than nine entries, 1 to 8,
+// 17. It takes TFT and STN panels.
 #[no_mangle]
 pub extern "C" fn lcd_check(words: &[u32], window_start: u32, video: &[u32]) -> u32
     ensures { λ r. ⌜ r ≡ check (now (words .entry)) «window_start» (now (video .entry)) ⌝ }
@@ -28,7 +30,7 @@ pub extern "C" fn lcd_check(words: &[u32], window_start: u32, video: &[u32]) -> 
 }
 
 // The frame's clocks, its HCLK ticks and its rate in millihertz (§10.3) go to the first three entries of `counts`; the others stay.
-// Refusals: 10 for `words` with fewer than nine entries, 1 to 7, 10 for `counts` with fewer than three.
+// Refusals: 10 for `words` with fewer than nine entries, 1 to 7, 10 for `counts` with fewer than three, 17. It takes TFT and STN panels.
 #[no_mangle]
 pub extern "C" fn lcd_counts(words: &[u32], hclk: u32, counts: &mut [u64]) -> u32
     ensures { λ r. ⌜ leaves r (now (counts .exit)) ≡ readCounts (now (words .entry)) hclk (now (counts .entry)) ⌝ }
@@ -80,6 +82,30 @@ pub extern "C" fn lcd_draw_picture(
                 window_start,
             };
             draw_picture(s, video, palette, picture)
+        }
+        Loaded::Refused(n) => n,
+    }
+}
+
+// Frame `frame` of an STN panel goes to the first W × H / 8 bytes of `out`, eight pixels to a byte, row by row; the others stay (§5.10).
+// Refusals: 10 for `words` with fewer than nine entries, 1 to 9, 10 for an `out` of fewer than W × H / 8 bytes, 17.
+#[no_mangle]
+pub extern "C" fn lcd_draw_stn(
+    words: &[u32],
+    window_start: u32,
+    video: &[u32],
+    frame: u32,
+    out: &mut [u8],
+) -> u32
+    ensures { λ r. ⌜ leaves r (now (out .exit)) ≡ drawStn (now (words .entry)) «window_start» (now (video .entry)) frame (now (out .entry)) ⌝ }
+{
+    match load(words) {
+        Loaded::Nine(w) => {
+            let s = Screen {
+                words: w,
+                window_start,
+            };
+            draw_stn(s, video, frame, out)
         }
         Loaded::Refused(n) => n,
     }

@@ -2,21 +2,20 @@
 -- does not start before the lent memory and the last does not end after it.
 use mathlib.Core.Bool.{Bool, true, false, not, _||_, true≢false}
 use mathlib.Core.Path.{_≡_, refl, sym, ap, _∙_}
-use Prim.Native.Nat.{ℕ, _+_, _-_, _*_, _/_, _%_, _^_, _≤_}
+use Prim.Native.Nat.{ℕ, _+_, _-_, _*_, _/_, _%_, _^_, _<_, _≤_}
 use native.Mathlib.Nat.{mul-le-mul-right}
 use native.Mathlib.Omega.{arith}
 use borrow.Author.Tests.{lt-ltb, le-ltb, ltb-true, ltb-false, eqb-true, not-false}
 use lib.Dec.{eqb, ltb}
 use Rattle.laws.specs.Booleans.{someBelow}
 use Rattle.laws.specs.BooleanLaws.{none-below, one-below, or-false, or-false-left, or-false-right, or-true}
-use Rattle.laws.specs.ProductLaws.{product-le}
-use Rattle.panel.specs.Geometry.{width, height, pitch, rowOffset, storedBits}
-use Rattle.panel.proofs.Accepted.{Accepted, row-starts-at-word}
+use Rattle.panel.specs.Geometry.{height, pitch, rowOffset}
+use Rattle.panel.proofs.Accepted.{Laid, row-has-words, row-starts-at-word}
 use Rattle.panel.proofs.Bounds.{row-offset-le}
-use Rattle.panel.proofs.Modes.{stored-bits-pos}
-use Rattle.registers.specs.Fields.{pagewidth, bppmode}
+use Rattle.registers.specs.Fields.{pagewidth}
 use Rattle.registers.specs.declared.Words.{Words}
-use Rattle.memory.specs.Memory.{screen, rowAddress, rowWords, wordOutside, outsideMemory}
+use Rattle.memory.specs.Memory.{screen, rowAddress, rowWords, wordOutside, outsideMemory, firstWord}
+use Rattle.memory.specs.declared.Screen.{Screen}
 
 -- ---- rows
 
@@ -28,16 +27,7 @@ pub rows-rise : (w : Words) (r s : ℕ) → r ≤ s → rowAddress w r ≤ rowAd
 unfolding rowAddress rowOffset
 rows-rise w r s h = omega (arith, mul-le-mul-right {m = r} {n = s} (pitch w) h)
 
-pub row-has-words : (w : Words) → Accepted w → 2 ≤ pagewidth w
-row-has-words w a =
-    omega (
-      arith,
-      a .row-bits,
-      a .row-even,
-      product-le 1 (width w) 1 (storedBits (bppmode w)) (omega arith) (stored-bits-pos (bppmode w) (a .mode)),
-    )
-
-pub row-at-word : (w : Words) → Accepted w → (r : ℕ) → rowAddress w r % 4 ≡ 0
+pub row-at-word : (w : Words) → Laid w → (r : ℕ) → rowAddress w r % 4 ≡ 0
 unfolding rowAddress
 row-at-word w a r = omega (arith, row-starts-at-word w a r)
 
@@ -49,7 +39,7 @@ beforeWindow w window-start = ltb (rowAddress w 0) window-start
 abbrev pub pastWindow : Words → ℕ → ℕ → Bool
 pastWindow w window-start lent = ltb (window-start + 4 * lent) (rowAddress w (height w - 1) + 2 * pagewidth w)
 
-module _ (w : Words) (a : Accepted w) (window-start lent : ℕ) where
+module _ (w : Words) (a : Laid w) (window-start lent : ℕ) where
   someWord : ℕ → Bool
   someWord r = someBelow (rowWords w) (λ i. wordOutside window-start lent (rowAddress w r + 4 * i))
 
@@ -147,3 +137,38 @@ module _ (w : Words) (a : Accepted w) (window-start lent : ℕ) where
             le-ltb lent ((rowAddress w (height w - 1) + 2 * pagewidth w - window-start) / 4)
             (omega (arith, ltb-false (window-start + 4 * lent) (rowAddress w (height w - 1) + 2 * pagewidth w) e))
             ∙ sym e
+
+-- ---- where 8 does not hold, each row's words are lent
+
+module _ (s : Screen) (lent : ℕ) (a : Laid (s .words)) (e : outsideMemory s lent ≡ false) where
+  misplaced : Bool
+  misplaced = not (eqb (s .«window_start» % 4) 0)
+
+  parts : misplaced || (beforeWindow (s .words) (s .«window_start») || pastWindow (s .words) (s .«window_start») lent) ≡ false
+  unfolding misplaced
+  parts = sym (closed-form (s .words) a (s .«window_start») lent) ∙ e
+
+  ends : beforeWindow (s .words) (s .«window_start») || pastWindow (s .words) (s .«window_start») lent ≡ false
+  ends = or-false-right misplaced (beforeWindow (s .words) (s .«window_start») || pastWindow (s .words) (s .«window_start») lent) parts
+
+  early : not (eqb (s .«window_start» % 4) 0) || beforeWindow (s .words) (s .«window_start») ≡ false
+  unfolding misplaced
+  early =
+      or-false
+      (or-false-left misplaced (beforeWindow (s .words) (s .«window_start») || pastWindow (s .words) (s .«window_start») lent) parts)
+      (or-false-left (beforeWindow (s .words) (s .«window_start»)) (pastWindow (s .words) (s .«window_start») lent) ends)
+
+  pub row-words-lent : (r : ℕ) → r < height (s .words) → firstWord s r + rowWords (s .words) ≤ lent
+  unfolding firstWord
+  row-words-lent r h =
+      omega (
+        arith,
+        start-at-word (s .words) a (s .«window_start») lent early,
+        start-before (s .words) a (s .«window_start») lent early,
+        row-at-word (s .words) a r,
+        a .row-even,
+        rows-rise (s .words) 0 r (omega arith),
+        rows-rise (s .words) r (height (s .words) - 1) (omega arith),
+        ltb-false (s .«window_start» + 4 * lent) (rowAddress (s .words) (height (s .words) - 1) + 2 * pagewidth (s .words))
+            (or-false-right (beforeWindow (s .words) (s .«window_start»)) (pastWindow (s .words) (s .«window_start») lent) ends),
+      )

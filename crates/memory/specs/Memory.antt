@@ -9,7 +9,7 @@ use Rattle.laws.specs.Answers.{judgedOn}
 use Rattle.laws.specs.Booleans.{someBelow}
 use Rattle.laws.specs.Cases.{Case, _when_, lowest}
 use Rattle.panel.specs.Geometry.{height, rowOffset}
-use Rattle.panel.specs.Refusals.{wordCases}
+use Rattle.panel.specs.Refusals.{wordCases, eitherCases, stnCases, clockTooFast}
 use Rattle.registers.specs.Fields.{lcdbank, pagewidth}
 use Rattle.registers.specs.Loading.{load}
 use Rattle.registers.specs.declared.Words.{Words}
@@ -38,7 +38,7 @@ outsideMemory s lent =
     || someBelow (height (s .words)) (λ r.
     someBelow (rowWords (s .words)) (λ i. wordOutside (s .«window_start») lent (rowAddress (s .words) r + 4 * i)))
 
--- the conditions on the words and the lent memory (§9.1)
+-- the conditions on the words and the lent memory (§9.1), for a call that takes TFT panels
 abbrev pub memoryCases : Screen → ℕ → List Case
 memoryCases s lent = wordCases (s .words) ++ (8 when outsideMemory s lent ∷ [])
 
@@ -46,9 +46,23 @@ memoryCases s lent = wordCases (s .words) ++ (8 when outsideMemory s lent ∷ []
 unfoldable pub judgeMemory : Screen → ℕ → ℕ
 judgeMemory s lent = lowest (memoryCases s lent)
 
--- the check (§9.3): 10 first where `words` has fewer than nine entries, then 1 to 8
+-- for a call that takes STN panels
+abbrev pub stnMemoryCases : Screen → ℕ → List Case
+stnMemoryCases s lent = stnCases (s .words) ++ (8 when outsideMemory s lent ∷ [])
+
+unfoldable pub judgeStnMemory : Screen → ℕ → ℕ
+judgeStnMemory s lent = lowest (stnMemoryCases s lent)
+
+-- for the check, which takes either panel and judges 17 too
+abbrev pub checkCases : Screen → ℕ → List Case
+checkCases s lent = eitherCases (s .words) ++ (8 when outsideMemory s lent ∷ 17 when clockTooFast (s .words) ∷ [])
+
+unfoldable pub judgeCheck : Screen → ℕ → ℕ
+judgeCheck s lent = lowest (checkCases s lent)
+
+-- the check (§9.3): 10 first where `words` has fewer than nine entries, then 1 to 8, then 17
 unfoldable pub check : List ℕ → ℕ → List ℕ → ℕ
-check words window-start memory = judgedOn (load words) (λ w. judgeMemory (screen w window-start) (length memory))
+check words window-start memory = judgedOn (load words) (λ w. judgeCheck (screen w window-start) (length memory))
 
 -- the index of a row's first word among the lent words (§3.2)
 unfoldable pub firstWord : Screen → ℕ → ℕ

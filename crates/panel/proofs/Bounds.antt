@@ -1,11 +1,13 @@
--- Bounds of every size that the fields can give, whatever the words (§2.1, §3.2, §6.1 to §6.3), so that nothing overflows.
-use Prim.Native.Nat.{ℕ, _+_, _*_, _≤_, _^_}
+-- Bounds of every size that the fields can give, whatever the words (§2.1, §2.3, §3.2, §6.1 to §6.3, §6.8), so that nothing overflows.
+use mathlib.Core.Bool.{Bool, true, false, cond}
+use Prim.Native.Nat.{ℕ, _+_, _*_, _<_, _≤_, _^_}
 use native.Mathlib.Omega.{arith}
+use lib.Pow.{pow-mono}
 use Rattle.laws.specs.ProductLaws.{product-le}
-use Rattle.registers.specs.Fields.{clkval}
+use Rattle.registers.specs.Fields.{clkval, hozval, wlh, wdly, stn}
 use Rattle.registers.specs.declared.Words.{Words}
-use Rattle.panel.specs.Counts.{frameTicks}
-use Rattle.panel.specs.Geometry.{width, height, pitch, rowOffset}
+use Rattle.panel.specs.Counts.{frameTicks, pulse, stnLineTicks, stnFrameClocks, stnFrameTicks, panelTicks}
+use Rattle.panel.specs.Geometry.{width, height, stnWidth, panelWidth, pitch, rowOffset}
 use Rattle.panel.specs.Timing.{timing, lineClocks, frameLines, frameClocks}
 
 -- ---- the panel
@@ -15,6 +17,14 @@ width-le w = omega arith
 
 pub height-le : (w : Words) → height w ≤ 1024
 height-le w = omega arith
+
+pub panel-width-le : (w : Words) → panelWidth w ≤ 16384
+unfolding panelWidth
+panel-width-le w = go (stn w)
+  where
+    go : (b : Bool) → cond b (stnWidth w) (width w) ≤ 16384
+    go true = omega arith
+    go false = omega arith
 
 pub pitch-le : (w : Words) → pitch w ≤ 4094
 pitch-le w = omega arith
@@ -56,3 +66,43 @@ frame-ticks-le w = product-le (2 * (clkval w + 1)) 2048 (frameClocks (timing w))
 pub frame-ticks-ge : (w : Words) → 32 ≤ frameTicks w
 unfolding frameTicks
 frame-ticks-ge w = product-le 2 (2 * (clkval w + 1)) 16 (frameClocks (timing w)) (omega arith) (frame-clocks-ge w)
+
+-- ---- the frame of an STN panel
+
+pub pulse-le : (n : ℕ) → n < 4 → pulse n ≤ 128
+pulse-le n h = pow-mono (below n h)
+  where
+    below : (k : ℕ) → k < 4 → 4 + k ≤ 7
+    below k l = omega arith
+
+pub pulse-ge : (n : ℕ) → 16 ≤ pulse n
+pulse-ge n = pow-mono (above n)
+  where
+    above : (k : ℕ) → 4 ≤ 4 + k
+    above k = omega arith
+
+pub stn-data-le : (w : Words) → 2 * clkval w * (hozval w + 1) ≤ 4190208
+stn-data-le w = product-le (2 * clkval w) 2046 (hozval w + 1) 2048 (omega arith) (omega arith)
+
+pub stn-line-ticks-le : (w : Words) → stnLineTicks pulse w ≤ 4192504
+unfolding stnLineTicks
+stn-line-ticks-le w =
+    omega (arith, stn-data-le w, pulse-le (wlh w) (omega arith), pulse-le (wdly w) (omega arith))
+
+pub stn-line-ticks-ge : (w : Words) → 32 ≤ stnLineTicks pulse w
+unfolding stnLineTicks
+stn-line-ticks-ge w = omega (arith, pulse-ge (wlh w), pulse-ge (wdly w))
+
+pub stn-frame-ticks-ge : (w : Words) → 32 ≤ stnFrameTicks pulse w
+unfolding stnFrameTicks
+stn-frame-ticks-ge w = product-le 1 (height w) 32 (stnLineTicks pulse w) (omega arith) (stn-line-ticks-ge w)
+
+-- ---- of either
+
+pub panel-ticks-ge : (w : Words) → 32 ≤ panelTicks w
+unfolding panelTicks
+panel-ticks-ge w = go (stn w)
+  where
+    go : (b : Bool) → 32 ≤ cond b (stnFrameTicks pulse w) (frameTicks w)
+    go true = stn-frame-ticks-ge w
+    go false = frame-ticks-ge w

@@ -1,24 +1,26 @@
--- Worked cases (§13.1), tried on the definitions: T1's counts, T8, T11, the extremes of ticks and rate (§6.3, §6.4), the rate that a
--- rounded pixel clock would miss (§13.2), and both sides of each of 1 to 7 (§9.1). Their numbers are worked out by hand.
+-- Worked cases (§13.1), tried on the definitions: T1's counts, T8, T11, the extremes of ticks and rate (§6.3, §6.4, §6.8), the rate that
+-- a rounded pixel clock would miss (§13.2), and both sides of each of 1 to 7 (§9.1), on TFT and on STN. Their numbers are worked out by
+-- hand.
 use mathlib.Core.Bool.{Bool, true, false, _&&_}
 use mathlib.Core.List.{List, [], _∷_}
 use mathlib.Core.Path.{_≡_, refl, ap, ap₂, _∙_}
 use Prim.Native.Nat.{ℕ, _*_}
 use native.Mathlib.Omega.{arith}
-use borrow.Author.Tests.{ne-eqb}
+use borrow.Author.Tests.{ne-eqb, eqb-true, not-false}
 use lib.Dec.{T, eqb}
-use Rattle.laws.specs.Answers.{accepted, judged, andThen, mapped}
+use Rattle.laws.specs.Answers.{accepted, refused, judged, andThen, mapped}
 use Rattle.laws.specs.Cases.{lowest, lower}
 use Rattle.laws.specs.CaseLaws.{first, lowest-of-ascending-is-first}
-use Rattle.registers.specs.Fields.{bppmode, pagewidth, reservedBit}
+use Rattle.registers.specs.Fields.{pnrmode, bppmode, pagewidth, stn, reservedBit}
 use Rattle.registers.specs.Loading.{load, tooShort, shortOfNine, nineWords}
 use Rattle.registers.specs.declared.Words.{Words}
-use Rattle.panel.specs.Counts.{counts, rate, frameTicks}
-use Rattle.panel.specs.Geometry.{width, storedBits, outsideModes, rowOffset}
-use Rattle.panel.specs.Refusals.{notTft, noSuchMode, swapsIllegal, rowSizeWrong, endDiffers, pastBank}
-use Rattle.panel.specs.Refusals.{judge, wordCases, accept}
+use Rattle.panel.specs.Counts.{acceptTimed, timedWords, counts, rate, frameTicks}
+use Rattle.panel.specs.Counts.{stnLineTicks, stnFrameClocks, stnFrameTicks, panelClocks, panelTicks}
+use Rattle.panel.specs.Geometry.{width, storedBits, outsideModes, stnBits, outsideStnModes, panelWidth, panelBits, rowOffset}
+use Rattle.panel.specs.Refusals.{notTft, notStn, neitherPanel, noSuchMode, swapsIllegal, rowSizeWrong, endDiffers, pastBank}
+use Rattle.panel.specs.Refusals.{judge, judgeStn, judgeEither, wordCases, clockTooFast, accept}
 use Rattle.panel.specs.Timing.{lineClocks, frameLines, frameClocks}
-use Rattle.panel.proofs.Accepted.{accepted-words}
+use Rattle.panel.proofs.Accepted.{accepted-words, tft-not-stn, row-bits}
 
 -- ---- counts and rates
 
@@ -47,6 +49,12 @@ examples =
     ∷ row (0x7B ∷ 0 ∷ 0 ∷ 0 ∷ 0 ∷ 0x18000000 ∷ 2 ∷ 2 ∷ 0 ∷ []) 0 16 32 0
     -- CLKVAL 1023 at 60 MHz: a pixel clock of 30.0 kHz would give 1875000, one of 29296 Hz 1831000
     ∷ row (0x3FF7B ∷ 0 ∷ 0 ∷ 0 ∷ 0 ∷ 0x18000000 ∷ 2 ∷ 2 ∷ 0 ∷ []) 60000000 16 32768 1831054
+    -- STN, 320 by 240 in 16 greys: CLKVAL 8, WLH 2, WDLY 1, LINEBLANK 10; 816 ticks a line
+    ∷ row (0x845 ∷ 0x3BC000 ∷ 0x8270A ∷ 0xD02 ∷ 0 ∷ 0x18000000 ∷ 0x4B00 ∷ 0x50 ∷ 0 ∷ []) 60000000 9600 195840 306372
+    -- STN, the most ticks: mono, 16384 by 1024, every field at its largest
+    ∷ row (0x3FF41 ∷ 0xFFFFFFFF ∷ 0x1FFFFF ∷ 0xFF03 ∷ 0 ∷ 0x18000000 ∷ 0x100000 ∷ 0x400 ∷ 0 ∷ []) 4294967295 2097152 4293124096 1000
+    -- STN, the highest rate: eight pixels, CLKVAL 2
+    ∷ row (0x245 ∷ 0 ∷ 0 ∷ 0 ∷ 0 ∷ 0x18000000 ∷ 2 ∷ 2 ∷ 0 ∷ []) 4294967295 1 36 119304647083
     ∷ []
 
 abbrev pub AllHold : List Example → Type 0
@@ -57,8 +65,13 @@ AllHold (x ∷ xs) =
     × AllHold xs
 
 pub examples-hold : AllHold examples
-unfolding counts rate mapped accept andThen load tooShort shortOfNine judged judge lowest lower reservedBit notTft noSuchMode outsideModes swapsIllegal storedBits rowSizeWrong endDiffers pastBank rowOffset lineClocks frameLines frameClocks frameTicks
-examples-hold = (refl, refl, (refl, refl, (refl, refl, (refl, refl, (refl, refl, (refl, refl, tt))))))
+unfolding counts rate mapped acceptTimed timedWords accept andThen load tooShort shortOfNine judged judgeEither lowest lower reservedBit stn neitherPanel notTft notStn noSuchMode outsideModes outsideStnModes swapsIllegal storedBits stnBits panelBits panelWidth rowSizeWrong endDiffers pastBank clockTooFast rowOffset lineClocks frameLines frameClocks frameTicks stnLineTicks stnFrameClocks stnFrameTicks panelClocks panelTicks
+examples-hold = (refl, refl, (refl, refl, (refl, refl, (refl, refl, (refl, refl, (refl, refl, (refl, refl, (refl, refl, (refl, refl, tt)))))))))
+
+-- CLKVAL 1 on STN
+pub clkval-1 : counts (0x145 ∷ 0 ∷ 0 ∷ 0 ∷ 0 ∷ 0x18000000 ∷ 2 ∷ 2 ∷ 0 ∷ []) ≡ refused 17
+unfolding counts mapped acceptTimed timedWords accept andThen load tooShort shortOfNine judged judgeEither lowest lower reservedBit stn neitherPanel notTft notStn noSuchMode outsideStnModes swapsIllegal stnBits panelBits panelWidth rowSizeWrong endDiffers pastBank clockTooFast rowOffset
+clkval-1 = refl
 
 -- ---- refusals
 
@@ -79,9 +92,11 @@ verdicts =
     ∷ (0x479 ∷ 0x014FC041 ∷ 0x0098EF09 ∷ 0x9 ∷ 0x20B09 ∷ 0x18000000 ∷ 0x12C00 ∷ 0xF0 ∷ 0 ∷ []) gives 1
     ∷ (0x479 ∷ 0x014FC041 ∷ 0x0098EF09 ∷ 0x9 ∷ 0xB09 ∷ 0x18000000 ∷ 0x12C00 ∷ 0xF0 ∷ 0x2000000 ∷ []) gives 1
     ∷ (0x0FFC0479 ∷ 0x014FC041 ∷ 0x0098EF09 ∷ 0x9 ∷ 0x1EB09 ∷ 0x18000000 ∷ 0x12C00 ∷ 0xF0 ∷ 0 ∷ []) gives 0
-    -- 2: PNRMODE 2, and before 3
-    ∷ (0x459 ∷ 0x014FC041 ∷ 0x0098EF09 ∷ 0x9 ∷ 0xB09 ∷ 0x18000000 ∷ 0x12C00 ∷ 0xF0 ∷ 0 ∷ []) gives 2
-    ∷ (0x44F ∷ 0x014FC041 ∷ 0x0098EF09 ∷ 0x9 ∷ 0xB09 ∷ 0x18000000 ∷ 0x12C00 ∷ 0xF0 ∷ 0 ∷ []) gives 2
+    -- 2: PNRMODE 1, and before 3; PNRMODE 2 where no bit is set that is reserved on STN
+    ∷ (0x439 ∷ 0x014FC041 ∷ 0x0098EF09 ∷ 0x9 ∷ 0xB09 ∷ 0x18000000 ∷ 0x12C00 ∷ 0xF0 ∷ 0 ∷ []) gives 2
+    ∷ (0x42F ∷ 0x014FC041 ∷ 0x0098EF09 ∷ 0x9 ∷ 0xB09 ∷ 0x18000000 ∷ 0x12C00 ∷ 0xF0 ∷ 0 ∷ []) gives 2
+    ∷ (0x459 ∷ 0x014FC041 ∷ 0x0098EF09 ∷ 0x9 ∷ 0xB09 ∷ 0x18000000 ∷ 0x12C00 ∷ 0xF0 ∷ 0 ∷ []) gives 1
+    ∷ (0x459 ∷ 0x014FC041 ∷ 0x0018EF09 ∷ 0x3 ∷ 0xB09 ∷ 0x18000000 ∷ 0x12C00 ∷ 0xF0 ∷ 0 ∷ []) gives 2
     -- 3: BPPMODE 7 and 14
     ∷ (0x46F ∷ 0x014FC041 ∷ 0x0098EF09 ∷ 0x9 ∷ 0xB09 ∷ 0x18000000 ∷ 0x12C00 ∷ 0xF0 ∷ 0 ∷ []) gives 3
     ∷ (0x47D ∷ 0x014FC041 ∷ 0x0098EF09 ∷ 0x9 ∷ 0xB09 ∷ 0x18000000 ∷ 0x12C00 ∷ 0xF0 ∷ 0 ∷ []) gives 3
@@ -105,12 +120,50 @@ verdicts =
     ∷ (0x479 ∷ 0x014FC041 ∷ 0x0098EF09 ∷ 0x9 ∷ 0xB09 ∷ 0x181EC010 ∷ 0x10 ∷ 0x80F0 ∷ 0 ∷ []) gives 0
     ∷ []
 
-abbrev pub agree : List Verdict → Bool
-agree [] = true
-agree (v ∷ vs) = eqb (judge (nineWords (v .words))) (v .number) && agree vs
+-- each is the STN panel of 320 by 240 in 16 greys (the first), changed where it says, for a call that takes STN panels
+abbrev pub stnVerdicts : List Verdict
+stnVerdicts =
+    (0x845 ∷ 0x3BC000 ∷ 0x8270A ∷ 0xD02 ∷ 0 ∷ 0x18000000 ∷ 0x4B00 ∷ 0x50 ∷ 0 ∷ []) gives 0
+    -- mono: rows of 40 bytes; every field that an STN panel has none of, and MVAL
+    ∷ (0x841 ∷ 0x3BC000 ∷ 0x8270A ∷ 0xD02 ∷ 0 ∷ 0x18000000 ∷ 0x12C0 ∷ 0x14 ∷ 0 ∷ []) gives 0
+    ∷ (0x845 ∷ 0xFF3BFFFF ∷ 0x8270A ∷ 0xFF02 ∷ 0x1FF0 ∷ 0x18000000 ∷ 0x4B00 ∷ 0x50 ∷ 0 ∷ []) gives 0
+    -- 1: the lowest bit above WDLY, above WLH, and of TPAL
+    ∷ (0x845 ∷ 0x3BC000 ∷ 0x28270A ∷ 0xD02 ∷ 0 ∷ 0x18000000 ∷ 0x4B00 ∷ 0x50 ∷ 0 ∷ []) gives 1
+    ∷ (0x845 ∷ 0x3BC000 ∷ 0x8270A ∷ 0xD06 ∷ 0 ∷ 0x18000000 ∷ 0x4B00 ∷ 0x50 ∷ 0 ∷ []) gives 1
+    ∷ (0x845 ∷ 0x3BC000 ∷ 0x8270A ∷ 0xD02 ∷ 0 ∷ 0x18000000 ∷ 0x4B00 ∷ 0x50 ∷ 1 ∷ []) gives 1
+    -- 2: TFT, and 4-bit STN
+    ∷ (0x865 ∷ 0x3BC000 ∷ 0x8270A ∷ 0xD02 ∷ 0 ∷ 0x18000000 ∷ 0x4B00 ∷ 0x50 ∷ 0 ∷ []) gives 2
+    ∷ (0x825 ∷ 0x3BC000 ∷ 0x8270A ∷ 0xD02 ∷ 0 ∷ 0x18000000 ∷ 0x4B00 ∷ 0x50 ∷ 0 ∷ []) gives 2
+    -- 3: BPPMODE 1, and 10, which TFT has
+    ∷ (0x843 ∷ 0x3BC000 ∷ 0x8270A ∷ 0xD02 ∷ 0 ∷ 0x18000000 ∷ 0x4B00 ∷ 0x50 ∷ 0 ∷ []) gives 3
+    ∷ (0x855 ∷ 0x3BC000 ∷ 0x8270A ∷ 0xD02 ∷ 0 ∷ 0x18000000 ∷ 0x4B00 ∷ 0x50 ∷ 0 ∷ []) gives 3
+    -- 4: HWSWP; BSWP is legal
+    ∷ (0x845 ∷ 0x3BC000 ∷ 0x8270A ∷ 0xD02 ∷ 1 ∷ 0x18000000 ∷ 0x4B00 ∷ 0x50 ∷ 0 ∷ []) gives 4
+    ∷ (0x845 ∷ 0x3BC000 ∷ 0x8270A ∷ 0xD02 ∷ 2 ∷ 0x18000000 ∷ 0x4B00 ∷ 0x50 ∷ 0 ∷ []) gives 0
+    -- 5: PAGEWIDTH for 40 pixels, as if W had no 8
+    ∷ (0x845 ∷ 0x3BC000 ∷ 0x8270A ∷ 0xD02 ∷ 0 ∷ 0x18000000 ∷ 0x960 ∷ 0xA ∷ 0 ∷ []) gives 5
+    -- 6: LCDBASEL one word further
+    ∷ (0x845 ∷ 0x3BC000 ∷ 0x8270A ∷ 0xD02 ∷ 0 ∷ 0x18000000 ∷ 0x4B02 ∷ 0x50 ∷ 0 ∷ []) gives 6
+    -- 7: an end of exactly 2^21 is accepted, a word further is not
+    ∷ (0x845 ∷ 0x3BC000 ∷ 0x8270A ∷ 0xD02 ∷ 0 ∷ 0x181FB500 ∷ 0 ∷ 0x50 ∷ 0 ∷ []) gives 0
+    ∷ (0x845 ∷ 0x3BC000 ∷ 0x8270A ∷ 0xD02 ∷ 0 ∷ 0x181FB502 ∷ 2 ∷ 0x50 ∷ 0 ∷ []) gives 7
+    ∷ []
 
-pub verdicts-agree : T (agree verdicts)
-unfolding judge lowest lower reservedBit notTft noSuchMode outsideModes swapsIllegal storedBits rowSizeWrong endDiffers pastBank rowOffset
+-- for a call that takes either: both panels are accepted, the other two PNRMODEs are not
+abbrev pub eitherVerdicts : List Verdict
+eitherVerdicts =
+    (0x845 ∷ 0x3BC000 ∷ 0x8270A ∷ 0xD02 ∷ 0 ∷ 0x18000000 ∷ 0x4B00 ∷ 0x50 ∷ 0 ∷ []) gives 0
+    ∷ (0x479 ∷ 0x014FC041 ∷ 0x0098EF09 ∷ 0x9 ∷ 0xB09 ∷ 0x18000000 ∷ 0x12C00 ∷ 0xF0 ∷ 0 ∷ []) gives 0
+    ∷ (0x439 ∷ 0x014FC041 ∷ 0x0098EF09 ∷ 0x9 ∷ 0xB09 ∷ 0x18000000 ∷ 0x12C00 ∷ 0xF0 ∷ 0 ∷ []) gives 2
+    ∷ (0x805 ∷ 0x3BC000 ∷ 0x8270A ∷ 0xD02 ∷ 0 ∷ 0x18000000 ∷ 0x4B00 ∷ 0x50 ∷ 0 ∷ []) gives 2
+    ∷ []
+
+abbrev pub agree : (Words → ℕ) → List Verdict → Bool
+agree by [] = true
+agree by (v ∷ vs) = eqb (by (nineWords (v .words))) (v .number) && agree by vs
+
+pub verdicts-agree : T (agree judge verdicts && agree judgeStn stnVerdicts && agree judgeEither eitherVerdicts)
+unfolding judge judgeStn judgeEither lowest lower reservedBit stn notTft notStn neitherPanel noSuchMode outsideModes outsideStnModes swapsIllegal storedBits stnBits panelBits panelWidth rowSizeWrong endDiffers pastBank rowOffset
 verdicts-agree = tt
 
 -- ---- T11: 24 bits
@@ -118,18 +171,20 @@ verdicts-agree = tt
 -- width 1023 needs PAGEWIDTH 2046
 pub width-1023 : (w : Words) → judge w ≡ 0 → bppmode w ≡ 13 → width w ≡ 1023 → pagewidth w ≡ 2046
 unfolding storedBits outsideModes
-width-1023 w e m v = omega (arith, accepted-words w e .row-bits, ap₂ _*_ v (ap storedBits m))
+width-1023 w e m v = omega (arith, row-bits w (accepted-words w e), ap₂ _*_ v (ap storedBits m))
 
 -- no PAGEWIDTH fits width 1024
-never-fits : (w : Words) → bppmode w ≡ 13 → width w ≡ 1024 → rowSizeWrong w ≡ true
-unfolding rowSizeWrong storedBits outsideModes
-never-fits w m v =
-    let bits : width w * storedBits (bppmode w) ≡ 1024 * 32 = ap₂ _*_ v (ap storedBits m) in
-    rw (ne-eqb (16 * pagewidth w) (width w * storedBits (bppmode w)) (λ e. omega (arith, bits, e)))
+never-fits : (w : Words) → stn w ≡ false → bppmode w ≡ 13 → width w ≡ 1024 → rowSizeWrong w ≡ true
+unfolding rowSizeWrong storedBits outsideModes panelWidth panelBits
+never-fits w tft m v =
+    rw tft
+    (let bits : width w * storedBits (bppmode w) ≡ 1024 * 32 = ap₂ _*_ v (ap storedBits m) in
+    rw (ne-eqb (16 * pagewidth w) (width w * storedBits (bppmode w)) (λ e. omega (arith, bits, e))))
 
 -- so width 1024 gives 5, whatever the fields, where 1 to 4 do not apply
 pub width-1024 : (w : Words) → bppmode w ≡ 13 → width w ≡ 1024 → reservedBit w ≡ false
     → notTft w ≡ false → swapsIllegal w ≡ false → judge w ≡ 5
-unfolding judge first noSuchMode outsideModes
+unfolding judge first noSuchMode outsideModes notTft
 width-1024 w m v clear tft swaps =
-    lowest-of-ascending-is-first 0 (wordCases w) tt ∙ rw (clear, tft, ap outsideModes m, swaps, never-fits w m v)
+    let other = tft-not-stn w (eqb-true (pnrmode w) 3 (not-false (eqb (pnrmode w) 3) tft)) in
+    lowest-of-ascending-is-first 0 (wordCases w) tt ∙ rw (clear, tft, other, ap outsideModes m, swaps, never-fits w other m v)

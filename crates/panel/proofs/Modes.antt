@@ -1,5 +1,5 @@
--- The modes (§2.2): what lies outside 8..13, and what the modes inside select.
-use mathlib.Core.Bool.{Bool, true, false, _&&_, and-eq-true-iff}
+-- The modes (§2.2, §2.3): what lies outside 8..13, and what the modes inside select; the same on STN.
+use mathlib.Core.Bool.{Bool, true, false, not, cond, _&&_, and-eq-true-iff, true≢false}
 use mathlib.Core.List.{[], _∷_}
 use mathlib.Core.Path.{_≡_, refl, sym}
 use Prim.Native.Nat.{ℕ, _-_, _*_, _/_, _<_, _≤_}
@@ -9,7 +9,9 @@ use lib.Dec.{T, leb, ltb, eqb, leb→le, ltb→lt, eqb→eq}
 use Rattle.laws.specs.Answers.{accepted, refused}
 use Rattle.laws.specs.AnswerLaws.{one-accepted, one-refused}
 use Rattle.laws.specs.TableLaws.{every, entry-passes}
-use Rattle.panel.specs.Geometry.{outsideModes, storedBits, depthOf}
+use Rattle.registers.specs.Fields.{bppmode, stn}
+use Rattle.registers.specs.declared.Words.{Words}
+use Rattle.panel.specs.Geometry.{outsideModes, storedBits, depthOf, outsideStnModes, stnBits, panelBits}
 
 -- ---- outside
 
@@ -74,3 +76,38 @@ stored-bits-pos mode o = ltb→lt 0 (storedBits mode) (size-passes (λ s. ltb 0 
 pub pixels-fill-word : (mode : ℕ) → outsideModes mode ≡ false → storedBits mode * (32 / storedBits mode) ≡ 32
 pixels-fill-word mode o =
     eqb→eq (storedBits mode * (32 / storedBits mode)) 32 (size-passes (λ s. eqb (s * (32 / s)) 32) tt mode o)
+
+-- ---- on STN
+
+-- by the two tests
+abbrev outsideBy : Bool → Bool → Bool
+outsideBy mono greys = not mono && not greys
+
+abbrev bitsBy : Bool → Bool → ℕ
+bitsBy mono greys = cond mono 1 (cond greys 4 0)
+
+pub stn-bits-pos : (mode : ℕ) → outsideStnModes mode ≡ false → 0 < stnBits mode
+unfolding outsideStnModes stnBits
+stn-bits-pos mode o = go (eqb mode 0) (eqb mode 2) o
+  where
+    go : (mono greys : Bool) → outsideBy mono greys ≡ false → 0 < bitsBy mono greys
+    go true greys e = omega arith
+    go false true e = omega arith
+    go false false e = absurd (true≢false e)
+
+pub stn-bits-le : (mode : ℕ) → stnBits mode ≤ 4
+unfolding stnBits
+stn-bits-le mode = go (eqb mode 0) (eqb mode 2)
+  where
+    go : (mono greys : Bool) → bitsBy mono greys ≤ 4
+    go true greys = omega arith
+    go false true = omega arith
+    go false false = omega arith
+
+pub panel-bits-le : (w : Words) → panelBits w ≤ 32
+unfolding panelBits
+panel-bits-le w = go (stn w)
+  where
+    go : (b : Bool) → cond b (stnBits (bppmode w)) (storedBits (bppmode w)) ≤ 32
+    go true = omega (arith, stn-bits-le (bppmode w))
+    go false = stored-bits-le (bppmode w)

@@ -1,13 +1,13 @@
--- The panel's size (§2.1), the stored bits of a pixel (§2.2) and where a row starts in the bank (§3.2). Promises cite it, so a reader
--- must believe it.
+-- The panel's size (§2.1), the stored bits of a pixel (§2.2), both on STN (§2.3), and where a row starts in the bank (§3.2). `width` and
+-- `storedBits` are a TFT panel's. Promises cite it, so a reader must believe it.
 use mathlib.Core.Bool.{Bool, not, cond, _&&_}
 use mathlib.Core.List.{[], _∷_}
 use Prim.Native.Nat.{ℕ, _+_, _-_, _*_}
-use lib.Dec.{leb}
+use lib.Dec.{leb, eqb}
 use lib.ListN.{getD}
 use Rattle.laws.specs.Answers.{Answer, accepted, refused, judged}
 use Rattle.laws.specs.Cases.{_when_, lowest}
-use Rattle.registers.specs.Fields.{hozval, lineval, lcdbaseu, pagewidth, offsize}
+use Rattle.registers.specs.Fields.{hozval, lineval, bppmode, lcdbaseu, pagewidth, offsize, stn}
 use Rattle.registers.specs.declared.Words.{Words}
 use Rattle.panel.specs.declared.geometry.Depth.{Depth}
 use Rattle.panel.specs.declared.geometry.Depth.the-variants.{Stored, Refused}
@@ -35,6 +35,30 @@ depth (Refused n) = refused n
 -- the stored bits that a BPPMODE selects, or 3 (§2.2)
 unfoldable pub depthOf : ℕ → Answer ℕ
 depthOf mode = judged (lowest (3 when outsideModes mode ∷ [])) (storedBits mode)
+
+-- ---- on STN (§2.3)
+
+-- W: eight pixels for each of HOZVAL + 1 clocks
+abbrev pub stnWidth : Words → ℕ
+stnWidth w = 8 * (hozval w + 1)
+
+-- a BPPMODE that is no STN mode: those are 0, mono, and 2, 16 greys
+unfoldable pub outsideStnModes : ℕ → Bool
+outsideStnModes mode = not (eqb mode 0) && not (eqb mode 2)
+
+-- S by BPPMODE; 0 where that is no STN mode
+unfoldable pub stnBits : ℕ → ℕ
+stnBits mode = cond (eqb mode 0) 1 (cond (eqb mode 2) 4 0)
+
+-- ---- by the panel that PNRMODE selects
+
+unfoldable pub panelWidth : Words → ℕ
+panelWidth w = cond (stn w) (stnWidth w) (width w)
+
+unfoldable pub panelBits : Words → ℕ
+panelBits w = cond (stn w) (stnBits (bppmode w)) (storedBits (bppmode w))
+
+-- ---- rows
 
 -- half-words from row to row (§3.2)
 abbrev pub pitch : Words → ℕ

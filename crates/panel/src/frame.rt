@@ -1,12 +1,17 @@
-// A frame's clocks and HCLK ticks (§6.3) and its rate (§6.4), by the nine words that a slice begins with. A caller that wants all of
-// them takes the words by `accept`, which judges them once, and asks `timing` for each.
+// A frame's clocks and HCLK ticks (§6.3) and its rate (§6.4), of either panel (§6.8), by the nine words that a slice begins with. A caller
+// that wants all of them takes the words by `accept`, which judges them once, and asks for each.
 ghost use mathlib.Core.Path.{_≡_};
-ghost use Rattle.panel.specs.Counts.{counted, counts, rated, rate};
+ghost use Rattle.laws.specs.Answers.{judged};
+ghost use Rattle.registers.specs.Loading.{loaded};
+ghost use Rattle.panel.specs.Counts.{panelClocks, panelTicks, panelMillihertz, acceptTimed, timedWords, counted, counts, rated, rate};
 use super::refusals::accept;
+use super::refusals::clock_too_fast;
+use super::stn_frame::stn_frame_clocks;
+use super::stn_frame::stn_frame_ticks;
 use super::timing::frame_clocks;
-use super::timing::frame_millihertz;
 use super::timing::frame_ticks;
 use registers::Loaded;
+use registers::Words;
 
 // The length of a frame, in clocks and in HCLK ticks.
 pub struct Counts {
@@ -26,25 +31,72 @@ pub enum Rated {
     Refused(u32),
 }
 
-// A frame's clocks and HCLK ticks, or a refusal: 10 first where `words` has fewer than nine entries, then 1 to 7.
+// Clocks in a frame, by the panel that PNRMODE selects.
+pub fn panel_clocks(w: Words) -> u32
+    ensures { λ r. ⌜ r ≡ panelClocks w ⌝ }
+{
+    if w.stn() {
+        stn_frame_clocks(w)
+    } else {
+        frame_clocks(w)
+    }
+}
+
+// HCLK ticks in a frame, by the panel that PNRMODE selects.
+pub fn panel_ticks(w: Words) -> u64
+    ensures { λ r. ⌜ r ≡ panelTicks w ⌝ }
+{
+    if w.stn() {
+        stn_frame_ticks(w)
+    } else {
+        frame_ticks(w)
+    }
+}
+
+// The frame rate in millihertz (§6.4): one exact division, rounded down once.
+pub fn panel_millihertz(w: Words, hclk: u32) -> u64
+    ensures { λ r. ⌜ r ≡ panelMillihertz w hclk ⌝ }
+{
+    hclk as u64 * 1000 / panel_ticks(w)
+}
+
+fn timed_words(w: Words) -> Loaded
+    ensures { λ r. ⌜ loaded r ≡ timedWords w ⌝ }
+{
+    if clock_too_fast(w) {
+        return Loaded::Refused(17);
+    }
+    Loaded::Nine(w)
+}
+
+fn accept_timed(words: &[u32]) -> Loaded
+    ensures { λ r. ⌜ loaded r ≡ acceptTimed (now (words .entry)) ⌝ }
+{
+    match accept(words) {
+        Loaded::Nine(w) => timed_words(w),
+        Loaded::Refused(n) => Loaded::Refused(n),
+    }
+}
+
+// A frame's clocks and HCLK ticks, or a refusal: 10 first where `words` has fewer than nine entries, then 1 to 7, then 17.
 pub fn frame_counts(words: &[u32]) -> Counted
     ensures { λ r. ⌜ counted r ≡ counts (now (words .entry)) ⌝ }
 {
-    match accept(words) {
+    match accept_timed(words) {
         Loaded::Nine(w) => Counted::Frame(Counts {
-            clocks: frame_clocks(w),
-            ticks: frame_ticks(w),
+            clocks: panel_clocks(w),
+            ticks: panel_ticks(w),
         }),
         Loaded::Refused(n) => Counted::Refused(n),
     }
 }
 
-// The frame rate in millihertz, rounded down, or a refusal: 10 first where `words` has fewer than nine entries, then 1 to 7.
+// The frame rate in millihertz, rounded down, or a refusal: 10 first where `words` has fewer than nine entries, then 1 to 7, then 17.
 pub fn frame_rate(words: &[u32], hclk: u32) -> Rated
     ensures { λ r. ⌜ rated r ≡ rate (now (words .entry)) hclk ⌝ }
 {
-    match accept(words) {
-        Loaded::Nine(w) => Rated::Millihertz(frame_millihertz(w, hclk)),
+    match accept_timed(words) {
+        Loaded::Nine(w) => Rated::Millihertz(panel_millihertz(w, hclk)),
         Loaded::Refused(n) => Rated::Refused(n),
     }
 }

@@ -1,7 +1,8 @@
-// The panel's size (§2.1), the stored bits of a pixel (§2.2) and where a row starts in the bank (§3.2).
+// The panel's size (§2.1), the stored bits of a pixel (§2.2), both on STN (§2.3), and where a row starts in the bank (§3.2).
 ghost use mathlib.Core.Path.{_≡_};
 ghost use Rattle.registers.specs.Fields.{bppmode};
 ghost use Rattle.panel.specs.Geometry.{width, height, depth, depthOf, storedBits, pitch, rowOffset};
+ghost use Rattle.panel.specs.Geometry.{stnWidth, stnBits, panelWidth, panelBits};
 use registers::Words;
 
 // What a BPPMODE selects: the stored bits of a pixel, or a refusal's number.
@@ -48,6 +49,39 @@ pub fn bits_of(w: Words) -> u32
         Depth::Stored(bits) => bits,
         Depth::Refused(_) => 0,
     }
+}
+
+// Pixels in a row of an STN panel (§2.3).
+pub fn stn_width(w: Words) -> u32
+    ensures { λ r. ⌜ r ≡ stnWidth w ⌝ }
+{
+    8 * width(w)
+}
+
+// The stored bits by the words' BPPMODE on STN, 0 where that is no STN mode.
+pub fn stn_bits_of(w: Words) -> u32
+    ensures { λ r. ⌜ r ≡ stnBits (bppmode w) ⌝ }
+{
+    let mode = w.bppmode();
+    match mode {
+        0 => 1,
+        2 => 4,
+        _ => 0,
+    }
+}
+
+// Pixels in a row, by the panel that PNRMODE selects.
+pub fn panel_width(w: Words) -> u32
+    ensures { λ r. ⌜ r ≡ panelWidth w ⌝ }
+{
+    if w.stn() { stn_width(w) } else { width(w) }
+}
+
+// The stored bits of a pixel, by the panel that PNRMODE selects.
+pub fn panel_bits(w: Words) -> u32
+    ensures { λ r. ⌜ r ≡ panelBits w ⌝ }
+{
+    if w.stn() { stn_bits_of(w) } else { bits_of(w) }
 }
 
 // Half-words from row to row.

@@ -1,16 +1,19 @@
-// Refusals 1 to 7 and 9, which the words alone decide (§9.1). Each condition has a function of its own; `judge` goes through 1 to 7.
+// Refusals 1 to 7, 9 and 17, which the words alone decide (§9.1). Each condition has a function of its own; `judge` goes through 1 to 7
+// for a call that takes TFT panels, `judge_stn` for one that takes STN panels, `judge_either` for one that takes both (§9.3).
 ghost use mathlib.Core.Path.{_≡_};
 ghost use Rattle.laws.specs.Answers.{judged};
 ghost use Rattle.laws.specs.Cases.{lower, andWhere};
+ghost use Rattle.registers.specs.Fields.{bppmode};
 ghost use Rattle.registers.specs.Loading.{loaded};
-ghost use Rattle.panel.specs.Refusals.{notTft, noSuchMode, swapsIllegal, rowSizeWrong, endDiffers, pastBank};
-ghost use Rattle.panel.specs.Refusals.{judge, videoOff, accept};
+ghost use Rattle.panel.specs.Geometry.{outsideModes, outsideStnModes};
+ghost use Rattle.panel.specs.Refusals.{notTft, notStn, neitherPanel, noSuchMode, swapsIllegal, rowSizeWrong, endDiffers, pastBank};
+ghost use Rattle.panel.specs.Refusals.{judgeWhere, judge, judgeEither, judgeStn, videoOff, clockTooFast, accept};
 use super::geometry::Depth;
-use super::geometry::bits_of;
 use super::geometry::height;
+use super::geometry::panel_bits;
+use super::geometry::panel_width;
 use super::geometry::row_offset;
 use super::geometry::stored_bits;
-use super::geometry::width;
 use registers::Loaded;
 use registers::Words;
 use registers::load;
@@ -21,8 +24,20 @@ fn not_tft(w: Words) -> bool
     w.pnrmode() != 3
 }
 
-fn no_such_mode(w: Words) -> bool
-    ensures { λ r. ⌜ r ≡ noSuchMode w ⌝ }
+fn not_stn(w: Words) -> bool
+    ensures { λ r. ⌜ r ≡ notStn w ⌝ }
+{
+    !w.stn()
+}
+
+fn neither_panel(w: Words) -> bool
+    ensures { λ r. ⌜ r ≡ neitherPanel w ⌝ }
+{
+    not_tft(w) & not_stn(w)
+}
+
+fn no_tft_mode(w: Words) -> bool
+    ensures { λ r. ⌜ r ≡ outsideModes (bppmode w) ⌝ }
 {
     match stored_bits(w.bppmode()) {
         Depth::Stored(_) => false,
@@ -30,10 +45,27 @@ fn no_such_mode(w: Words) -> bool
     }
 }
 
+fn no_stn_mode(w: Words) -> bool
+    ensures { λ r. ⌜ r ≡ outsideStnModes (bppmode w) ⌝ }
+{
+    let mode = w.bppmode();
+    (mode != 0) & (mode != 2)
+}
+
+fn no_such_mode(w: Words) -> bool
+    ensures { λ r. ⌜ r ≡ noSuchMode w ⌝ }
+{
+    if w.stn() {
+        no_stn_mode(w)
+    } else {
+        no_tft_mode(w)
+    }
+}
+
 fn swaps_illegal(w: Words) -> bool
     ensures { λ r. ⌜ r ≡ swapsIllegal w ⌝ }
 {
-    let bits = bits_of(w);
+    let bits = panel_bits(w);
     let bswp = w.bswp();
     let hwswp = w.hwswp();
     let up_to_byte = (bits == 1) | (bits == 2) | (bits == 4) | (bits == 8);
@@ -44,7 +76,7 @@ fn row_size_wrong(w: Words) -> bool
     ensures { λ r. ⌜ r ≡ rowSizeWrong w ⌝ }
 {
     let row = 16 * w.pagewidth();
-    let pixels = width(w) * bits_of(w);
+    let pixels = panel_width(w) * panel_bits(w);
     (row != pixels) | (w.lcdbaseu() % 2 == 1) | (w.pagewidth() % 2 == 1) | (w.offsize() % 2 == 1)
 }
 
@@ -74,17 +106,45 @@ pub fn and_where(refusal: u32, holds: bool, number: u32) -> u32
     0
 }
 
-// The lowest of 1 to 7 whose condition holds, 0 where none does (§9.2).
-pub fn judge(w: Words) -> u32
-    ensures { λ r. ⌜ r ≡ judge w ⌝ }
+// The lowest of 1 to 7 whose condition holds, 0 where none does (§9.2), for a call that does not take the panel where `other` holds.
+fn judge_where(other: bool, w: Words) -> u32
+    ensures { λ r. ⌜ r ≡ judgeWhere other w ⌝ }
 {
     let to_1 = and_where(0, w.reserved_bit(), 1);
-    let to_2 = and_where(to_1, not_tft(w), 2);
+    let to_2 = and_where(to_1, other, 2);
     let to_3 = and_where(to_2, no_such_mode(w), 3);
     let to_4 = and_where(to_3, swaps_illegal(w), 4);
     let to_5 = and_where(to_4, row_size_wrong(w), 5);
     let to_6 = and_where(to_5, end_differs(w), 6);
     and_where(to_6, past_bank(w), 7)
+}
+
+// 1 to 7, for a call that takes TFT panels.
+pub fn judge(w: Words) -> u32
+    ensures { λ r. ⌜ r ≡ judge w ⌝ }
+{
+    judge_where(not_tft(w), w)
+}
+
+// 1 to 7, for a call that takes either panel.
+pub fn judge_either(w: Words) -> u32
+    ensures { λ r. ⌜ r ≡ judgeEither w ⌝ }
+{
+    judge_where(neither_panel(w), w)
+}
+
+// 1 to 7, for a call that takes STN panels.
+pub fn judge_stn(w: Words) -> u32
+    ensures { λ r. ⌜ r ≡ judgeStn w ⌝ }
+{
+    judge_where(not_stn(w), w)
+}
+
+// Refusal 17 (§9.1): CLKVAL is too low for an STN panel.
+pub fn clock_too_fast(w: Words) -> bool
+    ensures { λ r. ⌜ r ≡ clockTooFast w ⌝ }
+{
+    w.stn() & (w.clkval() < 2)
 }
 
 // Refusal 9 (§9.1): video is off.
@@ -111,17 +171,17 @@ pub fn lower(a: u32, b: u32) -> u32
 }
 
 fn accept_words(w: Words) -> Loaded
-    ensures { λ r. ⌜ loaded r ≡ judged (judge w) w ⌝ }
+    ensures { λ r. ⌜ loaded r ≡ judged (judgeEither w) w ⌝ }
 {
-    let refusal = judge(w);
+    let refusal = judge_either(w);
     if refusal != 0 {
         return Loaded::Refused(refusal);
     }
     Loaded::Nine(w)
 }
 
-// The nine words that a slice begins with, or a refusal: 10 first where `words` has fewer than nine entries, then 1 to 7. Words from
-// here need not be judged again.
+// The nine words that a slice begins with, of either panel, or a refusal: 10 first where `words` has fewer than nine entries, then 1
+// to 7. Words from here need not be judged by these again.
 pub fn accept(words: &[u32]) -> Loaded
     ensures { λ r. ⌜ loaded r ≡ accept (now (words .entry)) ⌝ }
 {

@@ -35,8 +35,11 @@ masks =
     ∷ at Fields.hbpd 2 0x03F80000 127
     ∷ at Fields.hozval 2 0x0007FF00 2047
     ∷ at Fields.hfpd 2 0xFF 255
+    ∷ at Fields.wdly 2 0x00180000 3
+    ∷ at Fields.lineblank 2 0xFF 255
     ∷ at Fields.mval 3 0xFF00 255
     ∷ at Fields.hspw 3 0xFF 255
+    ∷ at Fields.wlh 3 0x3 3
     ∷ at Fields.vstatus 4 0x18000 3
     ∷ at Fields.hstatus 4 0x6000 3
     ∷ at Fields.bpp24bl 4 0x1000 1

@@ -1,20 +1,21 @@
--- Each field of the nine words by name (§1.2), and refusal 1 (§1.3). Which bits a field has stands in Layouts. Promises cite it, so a
--- reader must believe it.
-use mathlib.Core.Bool.{Bool}
+-- Each field of the nine words by name (§1.2, §1.7), and refusal 1 (§1.3, §1.7). Which bits a field has stands in Layouts. Promises cite
+-- it, so a reader must believe it.
+use mathlib.Core.Bool.{Bool, _&&_, _||_}
 use mathlib.Core.List.{List, [], _∷_}
 use Prim.Native.Nat.{ℕ}
+use lib.Dec.{eqb}
 use Rattle.laws.specs.BitFields.{field, reservedSet}
 use Rattle.laws.specs.Booleans.{any}
 use Rattle.registers.specs.declared.Words.{Words}
 use Rattle.registers.specs.Layouts.{LCDCON1, LINECNT, CLKVAL, MMODE, PNRMODE, BPPMODE, ENVID}
 use Rattle.registers.specs.Layouts.{LCDCON2, VBPD, LINEVAL, VFPD, VSPW}
-use Rattle.registers.specs.Layouts.{LCDCON3, HBPD, HOZVAL, HFPD}
-use Rattle.registers.specs.Layouts.{LCDCON4, MVAL, HSPW}
+use Rattle.registers.specs.Layouts.{LCDCON3, HBPD, HOZVAL, HFPD, STN-LCDCON3, WDLY, LINEBLANK}
+use Rattle.registers.specs.Layouts.{LCDCON4, MVAL, HSPW, STN-LCDCON4, WLH}
 use Rattle.registers.specs.Layouts.{LCDCON5, VSTATUS, HSTATUS, BPP24BL, FRM565, INVVCLK, INVVLINE, INVVFRAME, INVVD, INVVDEN, INVPWREN, INVLEND, PWREN, ENLEND, BSWP, HWSWP}
 use Rattle.registers.specs.Layouts.{LCDSADDR1, LCDBANK, LCDBASEU}
 use Rattle.registers.specs.Layouts.{LCDSADDR2, LCDBASEL}
 use Rattle.registers.specs.Layouts.{LCDSADDR3, OFFSIZE, PAGEWIDTH}
-use Rattle.registers.specs.Layouts.{TPAL, TPALEN, TPALVAL}
+use Rattle.registers.specs.Layouts.{TPAL, TPALEN, TPALVAL, STN-TPAL}
 
 -- ---- LCDCON1
 abbrev pub linecnt : Words → ℕ
@@ -58,12 +59,21 @@ hozval w = field HOZVAL (w .lcdcon3)
 abbrev pub hfpd : Words → ℕ
 hfpd w = field HFPD (w .lcdcon3)
 
+abbrev pub wdly : Words → ℕ
+wdly w = field WDLY (w .lcdcon3)
+
+abbrev pub lineblank : Words → ℕ
+lineblank w = field LINEBLANK (w .lcdcon3)
+
 -- ---- LCDCON4
 abbrev pub mval : Words → ℕ
 mval w = field MVAL (w .lcdcon4)
 
 abbrev pub hspw : Words → ℕ
 hspw w = field HSPW (w .lcdcon4)
+
+abbrev pub wlh : Words → ℕ
+wlh w = field WLH (w .lcdcon4)
 
 -- ---- LCDCON5
 abbrev pub vstatus : Words → ℕ
@@ -136,7 +146,11 @@ tpalen w = field TPALEN (w .tpal)
 abbrev pub tpalval : Words → ℕ
 tpalval w = field TPALVAL (w .tpal)
 
--- for each word, whether a reserved bit of it is set (§1.3)
+-- PNRMODE selects an STN panel: 8 bits, single scan (§1.7)
+unfoldable pub stn : Words → Bool
+stn w = eqb (pnrmode w) 2
+
+-- for each word, whether a bit of it is set that is reserved on every panel (§1.3)
 abbrev pub reservedWords : Words → List Bool
 reservedWords w =
     reservedSet LCDCON1 (w .lcdcon1)
@@ -150,6 +164,11 @@ reservedWords w =
     ∷ reservedSet TPAL (w .tpal)
     ∷ []
 
--- 1 (§1.3): some word has a reserved bit set
+-- the same for the three words that have another layout on an STN panel (§1.7)
+abbrev pub stnReservedWords : Words → List Bool
+stnReservedWords w =
+    reservedSet STN-LCDCON3 (w .lcdcon3) ∷ reservedSet STN-LCDCON4 (w .lcdcon4) ∷ reservedSet STN-TPAL (w .tpal) ∷ []
+
+-- 1 (§1.3): some word has a reserved bit set; on an STN panel more bits are reserved (§1.7)
 unfoldable pub reservedBit : Words → Bool
-reservedBit w = any (reservedWords w)
+reservedBit w = any (reservedWords w) || (stn w && any (stnReservedWords w))

@@ -1,5 +1,6 @@
 -- The nine words bit by bit (§1.2), in the order of §1.1: each field once, by its highest and lowest bit, and each word as one list
--- from bit 31 down. Bits of no field are reserved (§1.3). Promises cite it, so a reader must believe it.
+-- from bit 31 down. Bits of no field are reserved (§1.3). Three words have another layout on an STN panel (§1.7). Promises cite it, so
+-- a reader must believe it.
 use mathlib.Core.List.{List, [], _∷_}
 use Rattle.laws.specs.BitFields.{Span, free, readOnly, reserved}
 
@@ -54,6 +55,16 @@ HFPD = free 7 0
 abbrev pub LCDCON3 : List Span
 LCDCON3 = reserved 31 26 ∷ HBPD ∷ HOZVAL ∷ HFPD ∷ []
 
+-- on STN: WDLY 20..19, HOZVAL 18..8, LINEBLANK 7..0.
+abbrev pub WDLY : Span
+WDLY = free 20 19
+
+abbrev pub LINEBLANK : Span
+LINEBLANK = free 7 0
+
+abbrev pub STN-LCDCON3 : List Span
+STN-LCDCON3 = reserved 31 21 ∷ WDLY ∷ HOZVAL ∷ LINEBLANK ∷ []
+
 -- LCDCON4: MVAL 15..8, HSPW 7..0.
 abbrev pub MVAL : Span
 MVAL = free 15 8
@@ -63,6 +74,13 @@ HSPW = free 7 0
 
 abbrev pub LCDCON4 : List Span
 LCDCON4 = reserved 31 16 ∷ MVAL ∷ HSPW ∷ []
+
+-- on STN: MVAL 15..8, WLH 1..0.
+abbrev pub WLH : Span
+WLH = free 1 0
+
+abbrev pub STN-LCDCON4 : List Span
+STN-LCDCON4 = reserved 31 16 ∷ MVAL ∷ reserved 7 2 ∷ WLH ∷ []
 
 -- LCDCON5: VSTATUS 16..15 and HSTATUS 14..13 (read-only), BPP24BL 12, FRM565 11, INVVCLK 10, INVVLINE 9, INVVFRAME 8, INVVD 7,
 -- INVVDEN 6, INVPWREN 5, INVLEND 4, PWREN 3, ENLEND 2, BSWP 1, HWSWP 0.
@@ -167,3 +185,7 @@ TPALVAL = free 23 0
 
 abbrev pub TPAL : List Span
 TPAL = reserved 31 25 ∷ TPALEN ∷ TPALVAL ∷ []
+
+-- on STN: no field.
+abbrev pub STN-TPAL : List Span
+STN-TPAL = reserved 31 0 ∷ []

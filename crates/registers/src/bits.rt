@@ -1,17 +1,18 @@
-// The fields of the nine words by bit (§1.2): `cut` shifts and masks.
+// The fields of the nine words by bit (§1.2, §1.7): `cut` shifts and masks.
 ghost use mathlib.Core.Path.{_≡_};
 ghost use Prim.Native.Nat.{suc, _-_, _/_, _%_, _^_, _≤_, _<_};
+ghost use Rattle.laws.specs.Booleans.{any};
 ghost use Rattle.registers.specs.Fields.{linecnt, clkval, mmode, pnrmode, bppmode, envid};
 ghost use Rattle.registers.specs.Fields.{vbpd, lineval, vfpd, vspw};
-ghost use Rattle.registers.specs.Fields.{hbpd, hozval, hfpd};
-ghost use Rattle.registers.specs.Fields.{mval, hspw};
+ghost use Rattle.registers.specs.Fields.{hbpd, hozval, hfpd, wdly, lineblank};
+ghost use Rattle.registers.specs.Fields.{mval, hspw, wlh};
 ghost use Rattle.registers.specs.Fields.{vstatus, hstatus, bpp24bl, frm565, invvclk, invvline, invvframe, invvd};
 ghost use Rattle.registers.specs.Fields.{invvden, invpwren, invlend, pwren, enlend, bswp, hwswp};
 ghost use Rattle.registers.specs.Fields.{lcdbank, lcdbaseu};
 ghost use Rattle.registers.specs.Fields.{lcdbasel};
 ghost use Rattle.registers.specs.Fields.{offsize, pagewidth};
 ghost use Rattle.registers.specs.Fields.{tpalen, tpalval};
-ghost use Rattle.registers.specs.Fields.{reservedBit};
+ghost use Rattle.registers.specs.Fields.{stn, reservedWords, stnReservedWords, reservedBit};
 use super::Words;
 
 // Bits high down to low of a word.
@@ -107,6 +108,20 @@ impl Words {
         cut(self.lcdcon3, 7, 0)
     }
 
+    // On STN.
+    pub fn wdly(self) -> u32
+        ensures { λ r. ⌜ r ≡ wdly self ⌝ }
+    {
+        cut(self.lcdcon3, 20, 19)
+    }
+
+    // On STN.
+    pub fn lineblank(self) -> u32
+        ensures { λ r. ⌜ r ≡ lineblank self ⌝ }
+    {
+        cut(self.lcdcon3, 7, 0)
+    }
+
     // ---- LCDCON4
 
     pub fn mval(self) -> u32
@@ -119,6 +134,13 @@ impl Words {
         ensures { λ r. ⌜ r ≡ hspw self ⌝ }
     {
         cut(self.lcdcon4, 7, 0)
+    }
+
+    // On STN.
+    pub fn wlh(self) -> u32
+        ensures { λ r. ⌜ r ≡ wlh self ⌝ }
+    {
+        cut(self.lcdcon4, 1, 0)
     }
 
     // ---- LCDCON5
@@ -265,9 +287,16 @@ impl Words {
 
     // ---- all nine
 
-    // Refusal 1 (§1.3): some word has a reserved bit set.
-    pub fn reserved_bit(self) -> bool
-        ensures { λ r. ⌜ r ≡ reservedBit self ⌝ }
+    // PNRMODE selects an STN panel (§1.7).
+    pub fn stn(self) -> bool
+        ensures { λ r. ⌜ r ≡ stn self ⌝ }
+    {
+        self.pnrmode() == 2
+    }
+
+    // A bit is set that is reserved on every panel (§1.3).
+    fn reserved_anywhere(self) -> bool
+        ensures { λ r. ⌜ r ≡ any (reservedWords self) ⌝ }
     {
         let bits = cut(self.tpal, 31, 25);
         let bits = cut(self.lcdsaddr3, 31, 22) | bits;
@@ -278,5 +307,22 @@ impl Words {
         let bits = cut(self.lcdcon3, 31, 26) | bits;
         let bits = cut(self.lcdcon1, 31, 28) | bits;
         0 < bits
+    }
+
+    // A bit is set that is reserved on an STN panel (§1.7).
+    fn reserved_on_stn(self) -> bool
+        ensures { λ r. ⌜ r ≡ any (stnReservedWords self) ⌝ }
+    {
+        let bits = self.tpal;
+        let bits = cut(self.lcdcon4, 7, 2) | cut(self.lcdcon4, 31, 16) | bits;
+        let bits = cut(self.lcdcon3, 31, 21) | bits;
+        0 < bits
+    }
+
+    // Refusal 1 (§1.3): some word has a reserved bit set.
+    pub fn reserved_bit(self) -> bool
+        ensures { λ r. ⌜ r ≡ reservedBit self ⌝ }
+    {
+        self.reserved_anywhere() | (self.stn() & self.reserved_on_stn())
     }
 }

@@ -7,17 +7,18 @@ use lib.ListN.{replicate}
 use Rattle.laws.specs.Answers.{Answer, accepted, refused, judged, outcome, orElse, numberOf}
 use Rattle.laws.specs.Booleans.{someBelow}
 use Rattle.laws.specs.Cases.{lowest, lower}
-use Rattle.drawing.specs.Colour.{Lent, storedPixel, rowColour, colour}
+use Rattle.drawing.specs.Colour.{Lent, rowColour, colour}
 use Rattle.drawing.specs.Drawing.{paletteWrong}
 use Rattle.memory.specs.Memory.{screen, outsideMemory, wordOutside, rowAddress, firstWord}
-use Rattle.panel.specs.Geometry.{storedBits, outsideModes, rowOffset}
+use Rattle.panel.specs.Geometry.{storedBits, outsideModes, panelBits, panelWidth, rowOffset}
 use Rattle.panel.specs.Refusals.{notTft, noSuchMode, swapsIllegal, rowSizeWrong, endDiffers, pastBank, videoOff}
 use Rattle.panel.specs.Timing.{timing, lineClocks, frameLines, frameClocks}
 use Rattle.pixels.specs.Colours.{cut24}
 use Rattle.pixels.specs.Format.{format}
 use Rattle.pixels.specs.Order as Order
+use Rattle.pixels.specs.Order.{storedPixel}
 use Rattle.pixels.specs.Pixel.{shown}
-use Rattle.registers.specs.Fields.{reservedBit}
+use Rattle.registers.specs.Fields.{stn, reservedBit}
 use Rattle.registers.specs.Loading.{nineWords, tooShort}
 use Rattle.registers.specs.declared.Words.{Words}
 use Rattle.signals.specs.Clock.{level, dataWord, inSync, showsPixel, clockOf, clockAt}
@@ -37,7 +38,7 @@ use Rattle.scanout.specs.declared.state.Viewport.{Viewport}
 
 -- what a step is judged by
 unfoldable judgement : State → Lent → ℕ
-unfolding judgeStep judgeScan lowest lower reservedBit notTft noSuchMode outsideModes swapsIllegal storedBits rowSizeWrong
+unfolding judgeStep judgeScan lowest lower reservedBit stn notTft noSuchMode outsideModes swapsIllegal storedBits panelBits panelWidth rowSizeWrong
 judgement s l = judgeStep s l
 
 -- with the viewport's place and what is lent

@@ -1,25 +1,25 @@
--- A frame's counts into a lent slice (§10.3), and the order of the refusals (§9.3). Promises cite it, so a reader must believe it.
+-- A frame's counts, of either panel, into a lent slice (§10.3), and the order of the refusals (§9.3). Promises cite it, so a reader must believe it.
 use mathlib.Core.List.{List, [], _∷_}
 use Prim.Native.Nat.{ℕ}
 use lib.ListN.{length, getD}
 use Rattle.laws.specs.Answers.{Outcome, outcome, outcomeOn}
 use Rattle.laws.specs.Cases.{_when_, lowest}
 use Rattle.laws.specs.Storing.{stores}
-use Rattle.panel.specs.Counts.{frameTicks, frameMillihertz}
-use Rattle.panel.specs.Refusals.{accept}
-use Rattle.panel.specs.Timing.{timing, frameClocks}
+use Rattle.panel.specs.Counts.{panelClocks, panelTicks, panelMillihertz}
+use Rattle.panel.specs.Refusals.{accept, clockTooFast}
 use Rattle.registers.specs.Loading.{tooShort}
 use Rattle.registers.specs.declared.Words.{Words}
 
--- clocks, HCLK ticks (§6.3) and millihertz (§6.4), in this order
+-- clocks, HCLK ticks (§6.3, §6.8) and millihertz (§6.4), in this order
 abbrev pub numbers : Words → ℕ → List ℕ
-numbers w hclk = frameClocks (timing w) ∷ frameTicks w ∷ frameMillihertz w hclk ∷ []
+numbers w hclk = panelClocks w ∷ panelTicks w ∷ panelMillihertz w hclk ∷ []
 
--- 10 (§9.3): fewer than three entries for the counts
+-- 10 (§9.3): fewer than three entries for the counts; then 17
 unfoldable pub putCounts : Words → ℕ → List ℕ → Outcome
 putCounts w hclk out =
-    outcome (lowest (10 when tooShort (length out) 3 ∷ [])) out (stores (λ i. getD (numbers w hclk) i 0) 0 3 out)
+    outcome (lowest (10 when tooShort (length out) 3 ∷ 17 when clockTooFast w ∷ [])) out
+    (stores (λ i. getD (numbers w hclk) i 0) 0 3 out)
 
--- of the words in a slice: 10 first where it has fewer than nine entries, then 1 to 7, then the 10 above (§9.3)
+-- of the words in a slice: 10 first where it has fewer than nine entries, then 1 to 7, then the two above (§9.3)
 unfoldable pub readCounts : List ℕ → ℕ → List ℕ → Outcome
 readCounts words hclk out = outcomeOn (accept words) out (λ w. putCounts w hclk out)

@@ -1,11 +1,12 @@
-// A frame's clocks, HCLK ticks and rate (§6.3, §6.4) into a lent slice of three entries (§10.3).
+// A frame's clocks, HCLK ticks and rate (§6.3, §6.4, §6.8), of either panel, into a lent slice of three entries (§10.3).
 ghost use mathlib.Core.Path.{_≡_};
 ghost use Rattle.laws.specs.Answers.{leaves};
 ghost use Rattle.sizes.specs.Counts.{putCounts, readCounts};
+use panel::frame::panel_clocks;
+use panel::frame::panel_millihertz;
+use panel::frame::panel_ticks;
 use panel::refusals::accept;
-use panel::timing::frame_clocks;
-use panel::timing::frame_millihertz;
-use panel::timing::frame_ticks;
+use panel::refusals::clock_too_fast;
 use registers::Loaded;
 use registers::Words;
 
@@ -15,9 +16,12 @@ fn put_counts(w: Words, hclk: u32, counts: &mut [u64]) -> u32
     if counts.len() < 3 {
         return 10;
     }
-    let clocks = frame_clocks(w) as u64;
-    let ticks = frame_ticks(w);
-    let rate = frame_millihertz(w, hclk);
+    if clock_too_fast(w) {
+        return 17;
+    }
+    let clocks = panel_clocks(w) as u64;
+    let ticks = panel_ticks(w);
+    let rate = panel_millihertz(w, hclk);
     counts[0] = clocks;
     counts[1] = ticks;
     counts[2] = rate;
@@ -25,7 +29,7 @@ fn put_counts(w: Words, hclk: u32, counts: &mut [u64]) -> u32
 }
 
 // The frame's clocks, its HCLK ticks and its rate in millihertz, to the first three entries of `counts`; the others stay. 10 first where
-// `words` has fewer than nine entries, then 1 to 7, then 10 where `counts` has fewer than three.
+// `words` has fewer than nine entries, then 1 to 7, then 10 where `counts` has fewer than three, then 17.
 pub fn read_counts(words: &[u32], hclk: u32, counts: &mut [u64]) -> u32
     ensures { λ r. ⌜ leaves r (now (counts .exit)) ≡ readCounts (now (words .entry)) hclk (now (counts .entry)) ⌝ }
 {

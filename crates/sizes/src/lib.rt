@@ -1,11 +1,13 @@
 // The panel's sizes and a frame's counts as plain numbers in lent slices (§10.3). 0 is done; any other answer is the number of a
 // refusal, and then no lent slice changes (§9.5). Here the 12 sizes: the picture and its clock, the parts of a line in clocks, the parts
-// of a frame in lines.
+// of a frame in lines; on STN the parts that do not show the picture are 0.
 ghost use mathlib.Core.Path.{_≡_};
 ghost use Rattle.laws.specs.Answers.{leaves};
-ghost use Rattle.sizes.specs.Sizes.{sizes, readSizesOf, readSizes};
+ghost use Rattle.sizes.specs.Sizes.{tftSizes, stnSizes, sizes, readSizesOf, readSizes};
 use panel::geometry::bits_of;
 use panel::geometry::height;
+use panel::geometry::stn_bits_of;
+use panel::geometry::stn_width;
 use panel::geometry::width;
 use panel::timing::frame_lines;
 use panel::timing::line_clocks;
@@ -16,8 +18,8 @@ use registers::put_entries;
 
 pub mod counts;
 
-fn sizes_of(w: Words) -> [u32; 12]
-    ensures { λ r. ⌜ r ≡ sizes w ⌝ }
+fn tft_sizes(w: Words) -> [u32; 12]
+    ensures { λ r. ⌜ r ≡ tftSizes w ⌝ }
 {
     [
         width(w),
@@ -33,6 +35,31 @@ fn sizes_of(w: Words) -> [u32; 12]
         w.vfpd() + 1,
         frame_lines(w),
     ]
+}
+
+fn stn_sizes(w: Words) -> [u32; 12]
+    ensures { λ r. ⌜ r ≡ stnSizes w ⌝ }
+{
+    [
+        stn_width(w),
+        height(w),
+        stn_bits_of(w),
+        2 * w.clkval(),
+        0,
+        0,
+        0,
+        w.hozval() + 1,
+        0,
+        0,
+        0,
+        height(w),
+    ]
+}
+
+fn sizes_of(w: Words) -> [u32; 12]
+    ensures { λ r. ⌜ r ≡ sizes w ⌝ }
+{
+    if w.stn() { stn_sizes(w) } else { tft_sizes(w) }
 }
 
 fn read_sizes_of(w: Words, sizes: &mut [u32]) -> u32

@@ -1,30 +1,24 @@
 -- `memory::judge_memory` meets its contract: 1 to 7, and then 8.
-use mathlib.Core.Path.{sym, _∙_}
-use borrow.Author.Needs.{needs}
-use Rattle.laws.specs.CaseLaws.{front-refuses, front-passes, stops, ends}
-use Rattle.panel.specs.Refusals.{judge}
-use Rattle.memory.specs.Memory.{judgeMemory}
+use mathlib.Core.List.{[], _∷_}
+use mathlib.Core.Path.{sym, _∙_, refl}
+use Rattle.laws.specs.Cases.{_when_}
+use Rattle.laws.specs.CaseLaws.{and-next, further}
+use Rattle.panel.specs.Refusals.{wordCases, judge}
+use Rattle.panel.proofs.Accepted.{either-of-tft}
+use Rattle.memory.specs.Memory.{outsideMemory, judgeMemory}
 use Rattle.memory.proofs.judge_memory.Statement.{statement}
 use Rattle.memory.proofs.judge_memory.Tie as tie
 
+and-outside-requires : tie.Need-and-outside-requires
+and-outside-requires c κs z = either-of-tft (c .before .args .s .words) (sym (c .judge .ensures) ∙ z)
+
 returns : tie.Need-returns
 unfolding judgeMemory judge
-returns c = front-refuses _ _ _ tt (c .before .judge .ensures) (c .if1 .taken)
-
-returns-2 : tie.Need-returns-2
-unfolding judgeMemory judge
-returns-2 c =
-    let to-7 = c .before .before .before in
-    stops _ _ _ _ (front-passes _ _ _ tt (to-7 .judge .ensures) (c .before .before .if1 .left))
-    (sym (c .before .outside-memory .ensures) ∙ c .if2 .taken)
-
-returns-3 : tie.Need-returns-3
-unfolding judgeMemory judge
-returns-3 c =
-    let to-7 = c .before .before .before in
-    ends _ _ _ (front-passes _ _ _ tt (to-7 .judge .ensures) (c .before .before .if1 .left))
-    (sym (c .before .outside-memory .ensures) ∙ c .if2 .left)
+returns c =
+    let a = c .before .before .args in
+    c .and-outside .ensures
+    ∙ further (c .before .judge .result) 7 (wordCases (a .s .words)) (8 when outsideMemory (a .s) (a .lent) ∷ []) tt tt
+    (c .before .judge .ensures)
 
 pub judge-memory-spec : {M : Type 1} → statement M
-judge-memory-spec =
-    tie.close (tie.spec (λ c κs. tt) returns (λ c κs. search needs) returns-2 returns-3)
+judge-memory-spec = tie.close (tie.spec (λ c κs. tt) and-outside-requires returns)

@@ -2,7 +2,7 @@
 use Prim.Native.Nat.{_-_}
 use native.Mathlib.Omega.{arith}
 use borrow.Author.Needs.{needs}
-use Rattle.panel.proofs.Accepted.{accepted-words}
+use Rattle.panel.proofs.Accepted.{laid-either}
 use Rattle.memory.proofs.Window.{row-address-le, outside-early, outside-late, start-before, rows-rise}
 use Rattle.memory.proofs.outside_memory.Statement.{statement}
 use Rattle.memory.proofs.outside_memory.Tie as tie
@@ -24,7 +24,7 @@ add-end c =
 returns : tie.Need-returns
 returns c =
     let s = start (c .before) .args .s in
-    outside-early (s .words) (accepted-words (s .words) (start (c .before) .pre)) (s .«window_start») (start (c .before) .args .lent)
+    outside-early (s .words) (laid-either (s .words) (start (c .before) .pre)) (s .«window_start») (start (c .before) .args .lent)
     (rw (← first (c .before) .row-address .ensures) (c .if1 .taken))
 
 sub-result : tie.Need-sub-result
@@ -34,7 +34,7 @@ sub-result c =
       arith,
       c .before .before .row-address2 .ensures,
       rows-rise (s .words) 0 (c .before .before .before .height .result - 1) (omega arith),
-      start-before (s .words) (accepted-words (s .words) (start (c .before) .pre)) (s .«window_start») (start (c .before) .args .lent)
+      start-before (s .words) (laid-either (s .words) (start (c .before) .pre)) (s .«window_start») (start (c .before) .args .lent)
           (rw (← first (c .before) .row-address .ensures) (c .if1 .left)),
     )
 
@@ -46,7 +46,7 @@ returns-2 c =
       c .before .before .before .height .ensures,
       c .before .pagewidth .ensures,
     )
-    (outside-late (s .words) (accepted-words (s .words) (start (c .before) .pre)) (s .«window_start») (start (c .before) .args .lent)
+    (outside-late (s .words) (laid-either (s .words) (start (c .before) .pre)) (s .«window_start») (start (c .before) .args .lent)
     (rw (← first (c .before) .row-address .ensures) (c .if1 .left)))
 
 pub outside-memory-spec : {M : Type 1} → statement M

@@ -1,49 +1,16 @@
--- `sizes::sizes_of` meets its contract: size by size.
-use borrow.Author.Needs.{needs}
+-- `sizes::sizes_of` meets its contract.
+use Rattle.laws.specs.BooleanLaws.{chosen, not-chosen}
+use Rattle.sizes.specs.Sizes.{sizes}
 use Rattle.sizes.proofs.sizes_of.Statement.{statement}
 use Rattle.sizes.proofs.sizes_of.Tie as tie
 
 returns : tie.Need-returns
-returns c =
-    let line = c .before .before .before .before in
-    let picture = line .before .before .before .before in
-    rw (
-      picture .before .before .before .width .ensures,
-      picture .before .before .height .ensures,
-      picture .before .bits-of .ensures,
-      picture .clkval .ensures,
-      line .before .before .before .hspw .ensures,
-      line .before .before .hbpd .ensures,
-      line .before .hfpd .ensures,
-      line .line-clocks .ensures,
-      c .before .before .before .vspw .ensures,
-      c .before .before .vbpd .ensures,
-      c .before .vfpd .ensures,
-      c .frame-lines .ensures,
-    )
+unfolding sizes
+returns c = chosen _ (c .before .before .stn .ensures) (c .before .if1 .taken) (c .stn-sizes .ensures)
+
+returns-2 : tie.Need-returns-2
+unfolding sizes
+returns-2 c = not-chosen _ (c .before .before .stn .ensures) (c .before .if1 .left) (c .tft-sizes .ensures)
 
 pub sizes-of-spec : {M : Type 1} → statement M
-sizes-of-spec =
-    tie.close
-    (tie.spec
-    (λ c κs. tt)
-    (λ c κs. tt)
-    (λ c κs. tt)
-    (λ c κs. tt)
-    (λ c. search needs)
-    (λ c. search needs)
-    (λ c κs. tt)
-    (λ c. search needs)
-    (λ c κs. tt)
-    (λ c. search needs)
-    (λ c κs. tt)
-    (λ c. search needs)
-    (λ c κs. tt)
-    (λ c κs. tt)
-    (λ c. search needs)
-    (λ c κs. tt)
-    (λ c. search needs)
-    (λ c κs. tt)
-    (λ c. search needs)
-    (λ c κs. tt)
-    returns)
+sizes-of-spec = tie.close (tie.spec (λ c κs. tt) (λ c κs. tt) (λ c κs. tt) returns returns-2)

@@ -6,8 +6,8 @@ use native.Mathlib.Omega.{arith}
 use borrow.Author.Needs.{needs}
 use Rattle.laws.specs.StoringLaws.{Stored, none-stored, one-more, all-stored}
 use Rattle.pixels.specs.Colours.{cut24}
-use Rattle.drawing.specs.Colour.{storedPixel}
-use Rattle.drawing.proofs.Pixels.{word-is-pixel}
+use Rattle.pixels.proofs.StoredPixels.{word-is-pixel}
+use Rattle.pixels.specs.Order.{storedPixel}
 use Rattle.drawing.proofs.words.cut_words.Statement.{statement}
 use Rattle.drawing.proofs.words.cut_words.Tie as tie
 

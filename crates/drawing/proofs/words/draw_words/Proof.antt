@@ -8,7 +8,7 @@ use lib.Dec.{lit<, lit≤}
 use lib.ListN.{length, getD}
 use Rattle.laws.specs.Storing.{stores}
 use Rattle.pixels.specs.Pixel.{shown}
-use Rattle.drawing.specs.Colour.{storedPixel}
+use Rattle.pixels.specs.Order.{storedPixel}
 use Rattle.drawing.specs.Core.{Fits}
 use Rattle.drawing.proofs.Formats.{last-size, looked-up, halves-expanded, words-cut, fits-size, table-room}
 use Rattle.drawing.proofs.words.draw_words.Statement.{statement}

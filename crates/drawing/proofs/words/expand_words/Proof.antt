@@ -7,8 +7,8 @@ use borrow.Author.Needs.{needs}
 use lib.ListN.{length-set}
 use Rattle.laws.specs.StoringLaws.{Stored, none-stored, one-more, so-many-stored, all-stored}
 use Rattle.pixels.specs.Colours.{expanded}
-use Rattle.drawing.specs.Colour.{storedPixel}
-use Rattle.drawing.proofs.Pixels.{first-of-two, second-of-two}
+use Rattle.pixels.proofs.StoredPixels.{first-of-two, second-of-two}
+use Rattle.pixels.specs.Order.{storedPixel}
 use Rattle.drawing.proofs.words.expand_words.Statement.{statement}
 use Rattle.drawing.proofs.words.expand_words.Tie as tie
 

@@ -8,7 +8,7 @@ use lib.ListN.{length, getD}
 use Rattle.laws.specs.StoringLaws.{Stored, none-stored, one-more, all-stored}
 use Rattle.pixels.specs.Order.{pixelBits}
 use Rattle.pixels.proofs.PixelOrder.{pixel-past, pixel-bits-lt}
-use Rattle.drawing.proofs.Pixels.{pixel-inside}
+use Rattle.pixels.proofs.StoredPixels.{pixel-inside}
 use Rattle.drawing.proofs.words.look_up_word.Statement.{statement}
 use Rattle.drawing.proofs.words.look_up_word.Tie as tie
 

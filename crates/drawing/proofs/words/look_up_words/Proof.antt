@@ -7,9 +7,8 @@ use native.Mathlib.Omega.{arith}
 use borrow.Author.Needs.{needs}
 use lib.ListN.{length, getD}
 use Rattle.laws.specs.StoringLaws.{Stored, none-stored, some-more, so-many-stored, all-stored}
-use Rattle.pixels.specs.Order.{pixelBits}
-use Rattle.drawing.specs.Colour.{storedPixel}
-use Rattle.drawing.proofs.Pixels.{word-pixel}
+use Rattle.pixels.specs.Order.{pixelBits, storedPixel}
+use Rattle.pixels.proofs.StoredPixels.{word-pixel}
 use Rattle.drawing.proofs.words.look_up_words.Statement.{statement}
 use Rattle.drawing.proofs.words.look_up_words.Tie as tie
 

@@ -4,8 +4,7 @@ use borrow.Author.Needs.{needs}
 use denote.Ref.{now}
 use Rattle.laws.specs.AnswerLaws.{maps, maps-refusal}
 use Rattle.registers.specs.Loading.{loaded}
-use Rattle.panel.specs.Counts.{counts, countsOf}
-use Rattle.panel.specs.Refusals.{accept}
+use Rattle.panel.specs.Counts.{acceptTimed, counts, countsOf}
 use Rattle.panel.proofs.frame.frame_counts.Statement.{statement}
 use Rattle.panel.proofs.frame.frame_counts.Tie as tie
 
@@ -14,17 +13,17 @@ unfolding counts
 returns c =
     let at-match = c .before .before .before .before in
     let nine = c .before .before .before .w .given in
-    maps countsOf (accept (now (at-match .before .before .before .args .words))) (nine .0 .0) _
-    (sym (ap loaded (nine .1)) ∙ at-match .before .accept .ensures)
-    (rw (c .before .frame-clocks .ensures, c .frame-ticks .ensures))
+    maps countsOf (acceptTimed (now (at-match .before .before .before .args .words))) (nine .0 .0) _
+    (sym (ap loaded (nine .1)) ∙ at-match .before .accept-timed .ensures)
+    (rw (c .before .panel-clocks .ensures, c .panel-ticks .ensures))
 
 returns-2 : tie.Need-returns-2
 unfolding counts
 returns-2 c =
     let start = c .before .before .before .before .before in
     let n = c .before .n .given in
-    maps-refusal countsOf (accept (now (start .args .words))) (n .0 .0)
-    (sym (ap loaded (n .1)) ∙ c .before .before .before .accept .ensures)
+    maps-refusal countsOf (acceptTimed (now (start .args .words))) (n .0 .0)
+    (sym (ap loaded (n .1)) ∙ c .before .before .before .accept-timed .ensures)
 
 pub frame-counts-spec : {M : Type 1} → statement M
 frame-counts-spec =

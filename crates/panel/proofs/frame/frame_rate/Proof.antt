@@ -4,8 +4,7 @@ use borrow.Author.Needs.{needs}
 use denote.Ref.{now}
 use Rattle.laws.specs.AnswerLaws.{maps, maps-refusal}
 use Rattle.registers.specs.Loading.{loaded}
-use Rattle.panel.specs.Counts.{rate, frameMillihertz}
-use Rattle.panel.specs.Refusals.{accept}
+use Rattle.panel.specs.Counts.{acceptTimed, rate, panelMillihertz}
 use Rattle.panel.proofs.frame.frame_rate.Statement.{statement}
 use Rattle.panel.proofs.frame.frame_rate.Tie as tie
 
@@ -14,17 +13,17 @@ unfolding rate
 returns c =
     let start = c .before .before .before .before .before .before in
     let nine = c .before .before .w .given in
-    maps (λ w. frameMillihertz w (start .args .hclk)) (accept (now (start .args .words))) (nine .0 .0) _
-    (sym (ap loaded (nine .1)) ∙ c .before .before .before .before .accept .ensures)
-    (c .frame-millihertz .ensures)
+    maps (λ w. panelMillihertz w (start .args .hclk)) (acceptTimed (now (start .args .words))) (nine .0 .0) _
+    (sym (ap loaded (nine .1)) ∙ c .before .before .before .before .accept-timed .ensures)
+    (c .panel-millihertz .ensures)
 
 returns-2 : tie.Need-returns-2
 unfolding rate
 returns-2 c =
     let start = c .before .before .before .before .before in
     let n = c .before .n .given in
-    maps-refusal (λ w. frameMillihertz w (start .args .hclk)) (accept (now (start .args .words))) (n .0 .0)
-    (sym (ap loaded (n .1)) ∙ c .before .before .before .accept .ensures)
+    maps-refusal (λ w. panelMillihertz w (start .args .hclk)) (acceptTimed (now (start .args .words))) (n .0 .0)
+    (sym (ap loaded (n .1)) ∙ c .before .before .before .accept-timed .ensures)
 
 pub frame-rate-spec : {M : Type 1} → statement M
 frame-rate-spec =

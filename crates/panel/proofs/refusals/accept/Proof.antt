@@ -5,7 +5,7 @@ use denote.Ref.{now}
 use Rattle.laws.specs.Answers.{judged}
 use Rattle.laws.specs.AnswerLaws.{goes-on, passes-on}
 use Rattle.registers.specs.Loading.{load, loaded}
-use Rattle.panel.specs.Refusals.{judge, accept}
+use Rattle.panel.specs.Refusals.{judgeEither, accept}
 use Rattle.panel.proofs.refusals.accept.Statement.{statement}
 use Rattle.panel.proofs.refusals.accept.Tie as tie
 
@@ -14,7 +14,7 @@ unfolding accept
 returns c =
     let start = c .before .before .before .before .before .before in
     let nine = c .before .before .w .given in
-    goes-on (load (now (start .args .words))) (λ w. judged (judge w) w) (nine .0 .0) _
+    goes-on (load (now (start .args .words))) (λ w. judged (judgeEither w) w) (nine .0 .0) _
     (sym (ap loaded (nine .1)) ∙ c .before .before .before .before .load .ensures)
     (c .accept-words .ensures)
 
@@ -23,7 +23,7 @@ unfolding accept
 returns-2 c =
     let start = c .before .before .before .before .before in
     let n = c .before .n .given in
-    passes-on (load (now (start .args .words))) (λ w. judged (judge w) w) (n .0 .0)
+    passes-on (load (now (start .args .words))) (λ w. judged (judgeEither w) w) (n .0 .0)
     (sym (ap loaded (n .1)) ∙ c .before .before .before .load .ensures)
 
 pub accept-spec : {M : Type 1} → statement M

@@ -1,46 +1,13 @@
--- `panel::refusals::judge` meets its contract: a straight line of conditions in the order of their numbers.
-use mathlib.Core.List.{[]}
-use mathlib.Core.Path.{refl, _∙_}
-use Rattle.laws.specs.Cases.{lowest}
-use Rattle.laws.specs.CaseLaws.{and-next, further}
-use Rattle.panel.specs.Refusals.{wordCases, judge}
+-- `panel::refusals::judge` meets its contract.
+use mathlib.Core.Bool.{Bool}
+use mathlib.Core.Path.{ap, _∙_}
+use Rattle.panel.specs.Refusals.{judgeWhere, judge}
 use Rattle.panel.proofs.refusals.judge.Statement.{statement}
 use Rattle.panel.proofs.refusals.judge.Tie as tie
 
 returns : tie.Need-returns
-unfolding judge lowest
-returns c =
-    let to-6 = c .before .before in
-    let to-5 = to-6 .before .before in
-    let to-4 = to-5 .before .before in
-    let to-3 = to-4 .before .before in
-    let to-2 = to-3 .before .before in
-    let to-1 = to-2 .before .before in
-    let from-1 = and-next 1 (to-1 .and-where .ensures) refl (to-1 .before .reserved-bit .ensures) in
-    let from-2 = and-next 2 (to-2 .and-where2 .ensures) from-1 (to-2 .before .not-tft .ensures) in
-    let from-3 = and-next 3 (to-3 .and-where3 .ensures) from-2 (to-3 .before .no-such-mode .ensures) in
-    let from-4 = and-next 4 (to-4 .and-where4 .ensures) from-3 (to-4 .before .swaps-illegal .ensures) in
-    let from-5 = and-next 5 (to-5 .and-where5 .ensures) from-4 (to-5 .before .row-size-wrong .ensures) in
-    let from-6 = and-next 6 (to-6 .and-where6 .ensures) from-5 (to-6 .before .end-differs .ensures) in
-    and-next 7 (c .and-where7 .ensures) from-6 (c .before .past-bank .ensures)
-    ∙ further 0 0 [] (wordCases (to-1 .before .before .args .w)) tt tt refl
+unfolding judge judgeWhere
+returns c = c .judge-where .ensures ∙ ap (λ (b : Bool). judgeWhere b (c .before .before .args .w)) (c .before .not-tft .ensures)
 
 pub judge-spec : {M : Type 1} → statement M
-judge-spec =
-    tie.close
-    (tie.spec
-    (λ c κs. tt)
-    (λ c κs. tt)
-    (λ c κs. tt)
-    (λ c κs. tt)
-    (λ c κs. tt)
-    (λ c κs. tt)
-    (λ c κs. tt)
-    (λ c κs. tt)
-    (λ c κs. tt)
-    (λ c κs. tt)
-    (λ c κs. tt)
-    (λ c κs. tt)
-    (λ c κs. tt)
-    (λ c κs. tt)
-    returns)
+judge-spec = tie.close (tie.spec (λ c κs. tt) (λ c κs. tt) returns)

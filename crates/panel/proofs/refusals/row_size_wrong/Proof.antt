@@ -2,16 +2,18 @@
 use native.Mathlib.Omega.{arith}
 use borrow.Author.Needs.{needs}
 use Rattle.laws.specs.ProductLaws.{product-le}
-use Rattle.registers.specs.Fields.{bppmode}
-use Rattle.panel.proofs.Modes.{stored-bits-le}
+use Rattle.panel.proofs.Bounds.{panel-width-le}
+use Rattle.panel.proofs.Modes.{panel-bits-le}
 use Rattle.panel.specs.Refusals.{rowSizeWrong}
 use Rattle.panel.proofs.refusals.row_size_wrong.Statement.{statement}
 use Rattle.panel.proofs.refusals.row_size_wrong.Tie as tie
 
 mul-pixels : tie.Need-mul-pixels
 mul-pixels c =
-    let bits = stored-bits-le (bppmode (c .before .before .before .args .w)) in
-    omega (arith, product-le (c .before .width .result) 2048 (c .bits-of .result) 32 (omega arith) (omega arith))
+    let w = c .before .before .before .args .w in
+    let wide = panel-width-le w in
+    let bits = panel-bits-le w in
+    omega (arith, product-le (c .before .panel-width .result) 16384 (c .panel-bits .result) 32 (omega arith) (omega arith))
 
 returns : tie.Need-returns
 unfolding rowSizeWrong
@@ -19,8 +21,8 @@ returns c =
     let c3 = c .before .before .before in
     rw (
       c3 .before .before .pagewidth .ensures,
-      c3 .before .width .ensures,
-      c3 .bits-of .ensures,
+      c3 .before .panel-width .ensures,
+      c3 .panel-bits .ensures,
       c .before .before .lcdbaseu .ensures,
       c .before .pagewidth2 .ensures,
       c .offsize .ensures,

@@ -2,10 +2,10 @@
 use native.Mathlib.Omega.{arith}
 use borrow.Author.Needs.{needs}
 use borrow.Author.Tests.{lt-ltb, le-ltb}
-use mathlib.Core.Path.{sym}
+use mathlib.Core.Path.{sym, _∙_}
 use lib.ListN.{length-set}
 use Rattle.laws.specs.AnswerLaws.{leaves-as-it-was, leaves-written}
-use Rattle.laws.specs.CaseLaws.{lowest-of-ascending-is-first, stops, ends}
+use Rattle.laws.specs.CaseLaws.{lowest-of-ascending-is-first, skips, stops, ends}
 use Rattle.laws.specs.Storing.{stores}
 use Rattle.registers.specs.Loading.{tooShort}
 use Rattle.sizes.specs.Counts.{putCounts}
@@ -17,20 +17,32 @@ unfolding putCounts tooShort
 returns c =
     leaves-as-it-was 10 _ _ _ (stops _ _ _ _ (lowest-of-ascending-is-first 0 _ tt) (lt-ltb _ _ (c .if1 .taken))) (λ z. omega arith)
 
+returns-2 : tie.Need-returns-2
+unfolding putCounts tooShort
+returns-2 c =
+    leaves-as-it-was 17 _ _ _
+    (stops _ _ _ _ (skips _ _ _ _ (lowest-of-ascending-is-first 0 _ tt) (le-ltb _ _ (c .before .before .if1 .left)))
+    (sym (c .before .clock-too-fast .ensures) ∙ c .if2 .taken)) (λ z. omega arith)
+
 slice-write-counts-2 : tie.Need-slice-write-counts-2
 slice-write-counts-2 c = simp length-set (omega arith)
 
-returns-2 : tie.Need-returns-2
+returns-3 : tie.Need-returns-3
 unfolding putCounts tooShort stores
-returns-2 c =
-    leaves-written _ _ _ _ (sym (ends _ _ _ (lowest-of-ascending-is-first 0 _ tt) (le-ltb _ _ (c .before .before .before .if1 .left))))
-    (rw (c .before .before .frame-clocks .ensures, c .before .frame-ticks .ensures, c .frame-millihertz .ensures))
+returns-3 c =
+    let judged = c .before .before .before in
+    leaves-written _ _ _ _
+    (sym (ends _ _ _ (skips _ _ _ _ (lowest-of-ascending-is-first 0 _ tt) (le-ltb _ _ (judged .before .before .if1 .left)))
+    (sym (judged .before .clock-too-fast .ensures) ∙ judged .if2 .left)))
+    (rw (c .before .before .panel-clocks .ensures, c .before .panel-ticks .ensures, c .panel-millihertz .ensures))
 
 pub put-counts-spec : {M : Type 1} → statement M
 put-counts-spec =
     tie.close
     (tie.spec
     returns
+    (λ c κs. tt)
+    returns-2
     (λ c κs. tt)
     (λ c. search needs)
     (λ c κs. tt)
@@ -39,4 +51,4 @@ put-counts-spec =
     slice-write-counts-2
     (λ c. search needs)
     (λ c. search needs)
-    returns-2)
+    returns-3)

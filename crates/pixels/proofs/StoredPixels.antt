@@ -8,9 +8,8 @@ use native.Mathlib.Omega.{arith}
 use lib.Arith.{digits-div, digits-mod}
 use lib.ListN.{getD}
 use Rattle.laws.specs.ProductLaws.{product-le}
-use Rattle.pixels.specs.Order.{inOrder, exchangeHalves, pixelBits}
+use Rattle.pixels.specs.Order.{inOrder, exchangeHalves, pixelBits, storedPixel}
 use Rattle.pixels.proofs.PixelOrder.{pixel-bits-lt, whole-word, first-half-swapped, second-half-swapped, first-half-was-second, second-half-was-first}
-use Rattle.drawing.specs.Colour.{storedPixel}
 
 -- a pixel of a word ends inside it
 pub pixel-inside : (s k : ℕ) → s * (32 / s) ≡ 32 → k < 32 / s → s * k + s ≤ 32
