@@ -1,0 +1,64 @@
+-- Laws of the duties (§5.8): what holds of each entry of their table, and when two phases light a level alike (§5.9).
+use mathlib.Core.Bool.{Bool, true, _&&_}
+use mathlib.Core.List.{List, [], _∷_}
+use mathlib.Core.Path.{_≡_, sym, ap, _∙_}
+use Prim.Native.Nat.{ℕ, zero, suc, _+_, _*_, _/_, _%_, _<_, _≤_}
+use native.Mathlib.Nat.{mod-add-div', add-mul-mod-self-right, mod-mod-of-dvd, dvd-of-mod-eq-zero}
+use native.Mathlib.Omega.{arith}
+use lib.Dec.{T, eqb, ltb, leb, eqb→eq, ltb→lt, leb→le}
+use lib.ListN.{getD}
+use Rattle.laws.specs.BooleanLaws.{and-left, and-right}
+use Rattle.stn.specs.Greys.{_of_, duties, duty, lit}
+use Rattle.stn.specs.declared.greys.Duty.{Duty}
+
+-- ---- what holds of each duty
+
+abbrev every : (Duty → Bool) → List Duty → Bool
+every p [] = true
+every p (q ∷ qs) = p q && every p qs
+
+passes : (p : Duty → Bool) (qs : List Duty) → T (every p qs) → (q : Duty) → T (p q) → (k : ℕ) → T (p (getD qs k q))
+passes p [] t q d k = d
+passes p (x ∷ xs) t q d zero = and-left (p x) (every p xs) t
+passes p (x ∷ xs) t q d (suc k) = passes p xs (and-right (p x) (every p xs) t) q d k
+
+-- a test of the whole table holds of a level's duty
+pub each-duty : (p : Duty → Bool) → T (every p ((0 of 1) ∷ duties)) → (level : ℕ) → T (p (duty level))
+unfolding duty
+each-duty p t level = passes p duties (and-right (p (0 of 1)) (every p duties) t) (0 of 1) (and-left (p (0 of 1)) (every p duties) t) level
+
+pub denominator-pos : (level : ℕ) → 0 < duty level .denominator
+denominator-pos level = ltb→lt 0 (duty level .denominator) (each-duty (λ q. ltb 0 (q .denominator)) tt level)
+
+pub numerator-le : (level : ℕ) → duty level .numerator ≤ 6
+numerator-le level = leb→le (duty level .numerator) 6 (each-duty (λ q. leb (q .numerator) 6) tt level)
+
+-- 420 is a multiple of every denominator
+divides-420 : (level : ℕ) → 420 % duty level .denominator ≡ 0
+divides-420 level = eqb→eq (420 % duty level .denominator) 0 (each-duty (λ q. eqb (420 % q .denominator) 0) tt level)
+
+-- ---- phases alike
+
+by-remainder : (x n d : ℕ) → x * n % d ≡ x % d * n % d
+by-remainder x n d =
+    ap (λ (y : ℕ). y * n % d) {y = x % d + x / d * d} (sym (mod-add-div' x d))
+    ∙ ap (λ (y : ℕ). y % d) {y = x % d * n + x / d * n * d} (omega arith)
+    ∙ add-mul-mod-self-right (x % d * n) (x / d * n) d
+
+-- equal remainders by the denominator light a pixel alike
+pub lit-alike : (q : Duty) (x y : ℕ) → x % q .denominator ≡ y % q .denominator → lit q x ≡ lit q y
+unfolding lit
+lit-alike q x y e =
+    ap (λ (r : ℕ). ltb r (q .numerator))
+    (by-remainder x (q .numerator) (q .denominator)
+    ∙ ap (λ (r : ℕ). r * q .numerator % q .denominator) e
+    ∙ sym (by-remainder y (q .numerator) (q .denominator)))
+
+-- phases that are the same modulo 420 light every level alike
+pub lit-by-420 : (level x y : ℕ) → x % 420 ≡ y % 420 → lit (duty level) x ≡ lit (duty level) y
+lit-by-420 level x y e =
+    let d = duty level .denominator in
+    lit-alike (duty level) x y
+    (sym (mod-mod-of-dvd d x (dvd-of-mod-eq-zero d (divides-420 level)))
+    ∙ ap (λ (z : ℕ). z % d) e
+    ∙ mod-mod-of-dvd d y (dvd-of-mod-eq-zero d (divides-420 level)))

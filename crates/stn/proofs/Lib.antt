@@ -1,0 +1,7 @@
+pub mod Packing
+pub mod Duties
+pub mod Counting
+pub mod RowBytes
+pub mod FrameBytes
+pub mod Judged
+pub mod OverFrames

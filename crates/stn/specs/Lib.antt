@@ -1,0 +1,4 @@
+pub mod Greys
+pub mod Drawing
+pub mod OverFrames
+pub mod Core
