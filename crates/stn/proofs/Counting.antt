@@ -32,21 +32,21 @@ each (suc n) p t i h = go (ℕ-discrete i n) (each n p (and-right (p n) (allBelo
 
 -- the phases in which a pixel is lit, of the d from x on
 abbrev litFrom : Duty → ℕ → ℕ
-litFrom q x = countBelow (q .denominator) (λ i. lit q (x + i))
+litFrom q x = countBelow (q .d) (λ i. lit q (x + i))
 
 -- from each remainder by d on there are n: one test of the whole table
-by-test : (level x : ℕ) → x < duty level .denominator → litFrom (duty level) x ≡ duty level .numerator
+by-test : (level x : ℕ) → x < duty level .d → litFrom (duty level) x ≡ duty level .n
 unfolding countBelow lit
 by-test level x h =
-    eqb→eq (litFrom (duty level) x) (duty level .numerator)
-    (each (duty level .denominator) (λ r. eqb (litFrom (duty level) r) (duty level .numerator))
-    (each-duty (λ q. allBelow (q .denominator) (λ r. eqb (litFrom q r) (q .numerator))) tt level) x h)
+    eqb→eq (litFrom (duty level) x) (duty level .n)
+    (each (duty level .d) (λ r. eqb (litFrom (duty level) r) (duty level .n))
+    (each-duty (λ q. allBelow (q .d) (λ r. eqb (litFrom q r) (q .n))) tt level) x h)
 
 -- so there are n of any d in a row
-pub lit-n-of-d : (level x : ℕ) → countBelow (duty level .denominator) (λ i. lit (duty level) (x + i)) ≡ duty level .numerator
+pub lit-n-of-d : (level x : ℕ) → countBelow (duty level .d) (λ i. lit (duty level) (x + i)) ≡ duty level .n
 lit-n-of-d level x =
     let q = duty level in
-    let d = q .denominator in
+    let d = q .d in
     count-same d (λ i. lit q (x + i)) (λ i. lit q (x % d + i))
     (λ i h. lit-alike q (x + i) (x % d + i) (sym (mod-add-mod x d i)))
     ∙ by-test level (x % d) (mod-lt x (denominator-pos level))

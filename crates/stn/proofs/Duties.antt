@@ -25,17 +25,18 @@ passes p (x ∷ xs) t q d (suc k) = passes p xs (and-right (p x) (every p xs) t)
 -- a test of the whole table holds of a level's duty
 pub each-duty : (p : Duty → Bool) → T (every p ((0 of 1) ∷ duties)) → (level : ℕ) → T (p (duty level))
 unfolding duty
-each-duty p t level = passes p duties (and-right (p (0 of 1)) (every p duties) t) (0 of 1) (and-left (p (0 of 1)) (every p duties) t) level
+each-duty p t level =
+    passes p duties (and-right (p (0 of 1)) (every p duties) t) (0 of 1) (and-left (p (0 of 1)) (every p duties) t) level
 
-pub denominator-pos : (level : ℕ) → 0 < duty level .denominator
-denominator-pos level = ltb→lt 0 (duty level .denominator) (each-duty (λ q. ltb 0 (q .denominator)) tt level)
+pub denominator-pos : (level : ℕ) → 0 < duty level .d
+denominator-pos level = ltb→lt 0 (duty level .d) (each-duty (λ q. ltb 0 (q .d)) tt level)
 
-pub numerator-le : (level : ℕ) → duty level .numerator ≤ 6
-numerator-le level = leb→le (duty level .numerator) 6 (each-duty (λ q. leb (q .numerator) 6) tt level)
+pub numerator-le : (level : ℕ) → duty level .n ≤ 6
+numerator-le level = leb→le (duty level .n) 6 (each-duty (λ q. leb (q .n) 6) tt level)
 
 -- 420 is a multiple of every denominator
-divides-420 : (level : ℕ) → 420 % duty level .denominator ≡ 0
-divides-420 level = eqb→eq (420 % duty level .denominator) 0 (each-duty (λ q. eqb (420 % q .denominator) 0) tt level)
+divides-420 : (level : ℕ) → 420 % duty level .d ≡ 0
+divides-420 level = eqb→eq (420 % duty level .d) 0 (each-duty (λ q. eqb (420 % q .d) 0) tt level)
 
 -- ---- phases alike
 
@@ -46,18 +47,18 @@ by-remainder x n d =
     ∙ add-mul-mod-self-right (x % d * n) (x / d * n) d
 
 -- equal remainders by the denominator light a pixel alike
-pub lit-alike : (q : Duty) (x y : ℕ) → x % q .denominator ≡ y % q .denominator → lit q x ≡ lit q y
+pub lit-alike : (q : Duty) (x y : ℕ) → x % q .d ≡ y % q .d → lit q x ≡ lit q y
 unfolding lit
 lit-alike q x y e =
-    ap (λ (r : ℕ). ltb r (q .numerator))
-    (by-remainder x (q .numerator) (q .denominator)
-    ∙ ap (λ (r : ℕ). r * q .numerator % q .denominator) e
-    ∙ sym (by-remainder y (q .numerator) (q .denominator)))
+    ap (λ (r : ℕ). ltb r (q .n))
+    (by-remainder x (q .n) (q .d)
+    ∙ ap (λ (r : ℕ). r * q .n % q .d) e
+    ∙ sym (by-remainder y (q .n) (q .d)))
 
 -- phases that are the same modulo 420 light every level alike
 pub lit-by-420 : (level x y : ℕ) → x % 420 ≡ y % 420 → lit (duty level) x ≡ lit (duty level) y
 lit-by-420 level x y e =
-    let d = duty level .denominator in
+    let d = duty level .d in
     lit-alike (duty level) x y
     (sym (mod-mod-of-dvd d x (dvd-of-mod-eq-zero d (divides-420 level)))
     ∙ ap (λ (z : ℕ). z % d) e

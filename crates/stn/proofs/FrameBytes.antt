@@ -1,7 +1,7 @@
 -- Rows one after the other (§5.10): where each stands among a frame's bytes, and what it holds.
 use mathlib.Core.Bool.{Bool}
 use mathlib.Core.List.{List}
-use mathlib.Core.Path.{_≡_, ap, ap₂, _∙_}
+use mathlib.Core.Path.{_≡_, ap₂, _∙_}
 use Prim.Native.Nat.{ℕ, _+_, _*_, _%_, _<_, _≤_}
 use native.Mathlib.Nat.{add-mul, mul-le-mul-right}
 use native.Mathlib.Omega.{arith}
@@ -16,14 +16,6 @@ use Rattle.stn.specs.Drawing.{rowBytes, frameBytes, byteIn, stnByte}
 use Rattle.stn.specs.Greys.{rowByte}
 use Rattle.stn.proofs.RowBytes.{row-byte-alike}
 
-pub row-bytes-pos : (w : Words) → 0 < rowBytes w
-unfolding rowBytes
-row-bytes-pos w = omega arith
-
-pub row-bytes-le : (w : Words) → rowBytes w ≤ 2048
-unfolding rowBytes
-row-bytes-le w = omega arith
-
 -- row r ends inside the frame
 pub row-in-frame : (w : Words) (r : ℕ) → r < height w → r * rowBytes w + rowBytes w ≤ frameBytes w
 row-in-frame w r h =
@@ -36,8 +28,9 @@ module _ (s : Screen) (memory : List ℕ) (f r : ℕ) where
   byte-of-frame j h = ap₂ (byteIn s memory f) (digits-div r h) (digits-mod r h)
 
   -- it goes by the phase modulo 420
-  pub byte-by-phase : (bits : ℕ) (swap : Bool) (from phase j : ℕ) → bits ≡ stnBits (bppmode (s .words)) → swap ≡ eqb (bswp (s .words)) 1
-      → from ≡ firstWord s r → phase ≡ (f + r) % 420 → rowByte bits swap memory from phase j ≡ byteIn s memory f r j
+  pub byte-by-phase : (bits : ℕ) (swap : Bool) (from phase j : ℕ) → bits ≡ stnBits (bppmode (s .words))
+      → swap ≡ eqb (bswp (s .words)) 1 → from ≡ firstWord s r → phase ≡ (f + r) % 420
+      → rowByte bits swap memory from phase j ≡ byteIn s memory f r j
   unfolding byteIn
   byte-by-phase bits swap from phase j e₁ e₂ e₃ e₄ =
       row-byte-alike bits swap memory from phase (f + r) j (omega (arith, e₄))

@@ -5,3 +5,4 @@ pub mod RowBytes
 pub mod FrameBytes
 pub mod Judged
 pub mod OverFrames
+pub mod Examples

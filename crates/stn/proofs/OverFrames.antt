@@ -77,12 +77,12 @@ module _ (s : Screen) (memory : List ℕ) (f : ℕ) (was left : List ℕ) (d : d
 -- ---- over several frames
 
 -- of a pixel that keeps its grey level, n of any d frames in a row are lit
-pub grey-lit-n-of-d : (f r c level : ℕ) (frames : Frames f (duty level .denominator))
-    → ((i : ℕ) → i < duty level .denominator → Pixel (frames .screen i) (frames .memory i) r c 2 level)
-    → countBelow (duty level .denominator) (λ i. eqb (bitOf (frames .screen i .words) (frames .left i) r c) 1) ≡ duty level .numerator
+pub grey-lit-n-of-d : (f r c level : ℕ) (frames : Frames f (duty level .d))
+    → ((i : ℕ) → i < duty level .d → Pixel (frames .screen i) (frames .memory i) r c 2 level)
+    → countBelow (duty level .d) (λ i. eqb (bitOf (frames .screen i .words) (frames .left i) r c) 1) ≡ duty level .n
 unfolding stnBits shown
 grey-lit-n-of-d f r c level frames same =
-    count-same (duty level .denominator) _ (λ i. lit (duty level) (f + r + c + i))
+    count-same (duty level .d) _ (λ i. lit (duty level) (f + r + c + i))
     (λ i h.
     test-shown (frames .screen i) (frames .memory i) (f + i) (frames .was i) (frames .left i) (frames .drawn i h) r c 2 level (same i h)
     ∙ ap (lit (duty level)) (omega arith))

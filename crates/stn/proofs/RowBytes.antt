@@ -1,9 +1,8 @@
 -- The bytes of a row (§5.10) by the words that hold its pixels.
-use mathlib.Core.Bool.{Bool, true, false, cond}
+use mathlib.Core.Bool.{Bool, false, cond}
 use mathlib.Core.List.{List}
-use mathlib.Core.Path.{_≡_, refl, sym, ap, ap₂, _∙_}
+use mathlib.Core.Path.{_≡_, sym, ap, ap₂, _∙_}
 use Prim.Native.Nat.{ℕ, _+_, _-_, _*_, _/_, _%_, _^_, _<_}
-use native.Mathlib.Nat.{mod-add-mod}
 use native.Mathlib.Omega.{arith}
 use lib.Dec.{eqb}
 use lib.ListN.{getD}
@@ -30,7 +29,9 @@ pub row-byte-alike : (bits : ℕ) (bswp : Bool) (memory : List ℕ) (base x y j 
 unfolding rowByte
 row-byte-alike bits bswp memory base x y j e =
     packed-same _ _ 8
-    (λ k h. shown-alike bits (storedPixel bits bswp false memory base (8 * j + k)) (x + (8 * j + k)) (y + (8 * j + k)) (alike-on x y (8 * j + k) e))
+    (λ k h.
+    let c = 8 * j + k in
+    shown-alike bits (storedPixel bits bswp false memory base c) (x + c) (y + c) (alike-on x y c e))
 
 -- ---- 16 greys: byte j is word j
 
@@ -65,7 +66,8 @@ byte-of-greys bswp memory base phase j x p e f =
 
 -- ---- mono: a word is four bytes
 
-pub byte-of-mono : (bswp : Bool) (memory : List ℕ) (base phase i b x : ℕ) → b < 4 → x ≡ inOrder bswp false (getD memory (base + i) 0)
+pub byte-of-mono : (bswp : Bool) (memory : List ℕ) (base phase i b x : ℕ) → b < 4
+    → x ≡ inOrder bswp false (getD memory (base + i) 0)
     → pixelBits 8 x b ≡ rowByte 1 bswp memory base phase (i * 4 + b)
 unfolding rowByte shown pixelBits
 byte-of-mono bswp memory base phase i b x h e =

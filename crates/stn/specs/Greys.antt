@@ -10,7 +10,7 @@ use Rattle.stn.specs.declared.greys.Duty.{Duty}
 
 infix 70 _of_
 abbrev pub _of_ : ℕ → ℕ → Duty
-n of d = record { numerator = n; denominator = d }
+n of d = record { n = n; d = d }
 
 -- the frames in which a level's pixel is lit: n of each d (§5.8)
 abbrev pub duties : List Duty
@@ -18,13 +18,13 @@ duties =
     0 of 1 ∷ 1 of 7 ∷ 1 of 5 ∷ 1 of 4 ∷ 1 of 3 ∷ 2 of 5 ∷ 3 of 7 ∷ 1 of 2
     ∷ 4 of 7 ∷ 3 of 5 ∷ 2 of 3 ∷ 5 of 7 ∷ 3 of 4 ∷ 4 of 5 ∷ 6 of 7 ∷ 1 of 1 ∷ []
 
--- the duty of a level below 16
+-- the duty of a level; none above 15 is lit
 unfoldable pub duty : ℕ → Duty
 duty level = getD duties level (0 of 1)
 
 -- a pixel of this duty is lit at a phase: the number of the frame, the row and the column, added up (§5.9)
 unfoldable pub lit : Duty → ℕ → Bool
-lit q phase = ltb (phase * q .numerator % q .denominator) (q .numerator)
+lit q phase = ltb (phase * q .n % q .d) (q .n)
 
 -- whether stored bits v are lit, by their number (§5.9): of 1 bit where it is 1, of 4 by the level's duty
 unfoldable pub shown : ℕ → ℕ → ℕ → Bool

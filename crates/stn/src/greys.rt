@@ -5,29 +5,29 @@ ghost use lib.ListN.{length};
 ghost use Rattle.stn.specs.Core.{pattern, Patterns};
 ghost use Rattle.stn.specs.Greys.{duty, lit};
 
-// A level is lit in `numerator` of each `denominator` frames.
+// A fraction n / d: a level is lit in n of each d frames.
 pub struct Duty {
-    pub numerator: u32,
-    pub denominator: u32,
+    pub n: u32,
+    pub d: u32,
 }
 
 const DUTIES: [Duty; 16] = [
-    Duty { numerator: 0, denominator: 1 },
-    Duty { numerator: 1, denominator: 7 },
-    Duty { numerator: 1, denominator: 5 },
-    Duty { numerator: 1, denominator: 4 },
-    Duty { numerator: 1, denominator: 3 },
-    Duty { numerator: 2, denominator: 5 },
-    Duty { numerator: 3, denominator: 7 },
-    Duty { numerator: 1, denominator: 2 },
-    Duty { numerator: 4, denominator: 7 },
-    Duty { numerator: 3, denominator: 5 },
-    Duty { numerator: 2, denominator: 3 },
-    Duty { numerator: 5, denominator: 7 },
-    Duty { numerator: 3, denominator: 4 },
-    Duty { numerator: 4, denominator: 5 },
-    Duty { numerator: 6, denominator: 7 },
-    Duty { numerator: 1, denominator: 1 },
+    Duty { n: 0, d: 1 },
+    Duty { n: 1, d: 7 },
+    Duty { n: 1, d: 5 },
+    Duty { n: 1, d: 4 },
+    Duty { n: 1, d: 3 },
+    Duty { n: 2, d: 5 },
+    Duty { n: 3, d: 7 },
+    Duty { n: 1, d: 2 },
+    Duty { n: 4, d: 7 },
+    Duty { n: 3, d: 5 },
+    Duty { n: 2, d: 3 },
+    Duty { n: 5, d: 7 },
+    Duty { n: 3, d: 4 },
+    Duty { n: 4, d: 5 },
+    Duty { n: 6, d: 7 },
+    Duty { n: 1, d: 1 },
 ];
 
 // The duty of a level (§5.8).
@@ -44,7 +44,7 @@ fn lit(level: usize, phase: u32) -> bool
     ensures { λ r. ⌜ r ≡ lit (duty level) phase ⌝ }
 {
     let q = duty_of(level);
-    phase * q.numerator % q.denominator < q.numerator
+    phase * q.n % q.d < q.n
 }
 
 // The levels that are lit at a phase: level v is bit v.

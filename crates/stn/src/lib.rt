@@ -2,9 +2,11 @@
 ghost use mathlib.Core.Path.{_≡_};
 ghost use Rattle.laws.specs.Answers.{leaves};
 ghost use Rattle.stn.specs.Drawing.{frameBytes, judgeStnDrawing, drawStn};
+
 mod greys;
 mod rows;
 mod words;
+
 use memory::Screen;
 use memory::judge_stn_memory;
 use panel::geometry::height;

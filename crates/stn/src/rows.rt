@@ -73,7 +73,17 @@ fn draw_rows(s: Screen, video: &[u32], frame: u32, patterns: &[u32], out: &mut [
     while row < high {
         let from = first_word(s, row);
         let phase = (row_phase(frame, row) % 420) as usize;
-        draw_row(of_mono, bswp, video, from, words, phase, patterns, row as usize * bytes, out);
+        draw_row(
+            of_mono,
+            bswp,
+            video,
+            from,
+            words,
+            phase,
+            patterns,
+            row as usize * bytes,
+            out,
+        );
         row += 1;
     }
 }

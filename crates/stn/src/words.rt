@@ -75,14 +75,7 @@ fn put_word(x: u32, at: usize, out: &mut [u8])
 }
 
 // n words from `from` on, at 1 bit a pixel, four bytes for each.
-pub(crate) fn draw_mono(
-    video: &[u32],
-    from: usize,
-    n: usize,
-    bswp: bool,
-    at: usize,
-    out: &mut [u8],
-)
+pub(crate) fn draw_mono(video: &[u32], from: usize, n: usize, bswp: bool, at: usize, out: &mut [u8])
     requires { ⌜ (n ≤ length (now video) - from) × (at + n * 4 ≤ length (now out)) ⌝ }
     ensures { λ _. ⌜ now (out .exit) ≡ stores (rowByte 1 bswp (now (video .entry)) from 0) at (n * 4) (now (out .entry)) ⌝ }
 {

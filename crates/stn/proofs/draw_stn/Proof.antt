@@ -1,5 +1,6 @@
 -- `stn::draw_stn` meets its contract.
 use mathlib.Core.Path.{_≡_, sym, _∙_}
+use Prim.Native.Nat.{ℕ}
 use borrow.Author.Needs.{needs}
 use lib.ListN.{length}
 use Rattle.laws.specs.AnswerLaws.{leaves-as-it-was, leaves-written}
@@ -11,8 +12,12 @@ use Rattle.stn.proofs.draw_stn.Tie as tie
 abbrev start : tie.After-judge-drawing → tie.Start
 start c = c .before .before .before
 
-accepted : (c : tie.Else1)
-    → judgeStnDrawing (start (c .before) .args .s) (length (start (c .before) .args .video .now)) (length (start (c .before) .args .out .now)) ≡ 0
+abbrev judgement : tie.After-judge-drawing → ℕ
+judgement c =
+    let a = start c .args in
+    judgeStnDrawing (a .s) (length (a .video .now)) (length (a .out .now))
+
+accepted : (c : tie.Else1) → judgement (c .before) ≡ 0
 accepted c = sym (c .before .judge-drawing .ensures) ∙ c .if1 .left
 
 returns : tie.Need-returns

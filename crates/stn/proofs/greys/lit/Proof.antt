@@ -1,6 +1,5 @@
 -- `stn::greys::lit` meets its contract.
-use Prim.Native.Nat.{_≤_, _<_}
-use mathlib.Core.Path.{_≡_, ap}
+use Prim.Native.Nat.{_≤_}
 use native.Mathlib.Omega.{arith}
 use borrow.Author.Needs.{needs}
 use Rattle.laws.specs.ProductLaws.{product-le}
@@ -13,8 +12,8 @@ mul-result : tie.Need-mul-result
 mul-result c =
     let q = c .before .duty-of in
     let a = c .before .before .args in
-    let small : q .result .numerator ≤ 6 = rw (q .ensures) (numerator-le (a .level)) in
-    omega (arith, product-le (a .phase) 427 (q .result .numerator) 6 (omega arith) small)
+    let small : q .result .n ≤ 6 = rw (q .ensures) (numerator-le (a .level)) in
+    omega (arith, product-le (a .phase) 427 (q .result .n) 6 (omega arith) small)
 
 rem-result : tie.Need-rem-result
 rem-result c = rw (c .before .before .duty-of .ensures) (denominator-pos (c .before .before .before .args .level))

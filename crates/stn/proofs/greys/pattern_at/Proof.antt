@@ -2,7 +2,6 @@
 use mathlib.Core.Path.{_≡_, refl, ap, _∙_}
 use Prim.Native.Nat.{_-_, _^_, _<_, _≤_}
 use native.Mathlib.Omega.{arith}
-use borrow.Author.Needs.{needs}
 use Rattle.stn.specs.Core.{pattern}
 use Rattle.stn.specs.Greys.{duty, lit, bit, packed}
 use Rattle.stn.proofs.Packing.{bit-lt, bit-of-bool, packed-few, one-more-packed}

@@ -1,16 +1,16 @@
 -- `stn::rows::draw_rows` meets its contract: a row a turn.
 use mathlib.Core.Bool.{Bool}
 use mathlib.Core.Path.{_≡_, sym, ap, ap₂, _∙_}
-use Prim.Native.Nat.{ℕ, _+_, _-_, _*_, _/_, _%_, _<_, _≤_}
+use Prim.Native.Nat.{ℕ, _-_, _*_, _/_, _%_, _<_, _≤_}
 use native.Mathlib.Nat.{add-mul}
 use native.Mathlib.Omega.{arith}
-use borrow.Author.Needs.{needs}
 use lib.Dec.{eqb}
 use Rattle.laws.specs.ProductLaws.{product-le}
 use Rattle.laws.specs.StoringLaws.{Stored, none-stored, some-more, so-many-stored, all-stored}
 use Rattle.panel.specs.Geometry.{height}
 use Rattle.stn.specs.Core.{bitsIn, bytesOf}
 use Rattle.stn.specs.Drawing.{rowBytes, stnByte}
+use Rattle.stn.specs.Greys.{rowByte}
 use Rattle.stn.proofs.FrameBytes.{row-in-frame, byte-of-frame, byte-by-phase}
 use Rattle.stn.proofs.rows.draw_rows.Statement.{statement}
 use Rattle.stn.proofs.rows.draw_rows.Tie as tie
@@ -53,17 +53,23 @@ inside c = omega (arith, c .loop-test .taken, c .before .before .height .ensures
 mul-draw-row : tie.Need-mul-draw-row Inv-loop μ-loop
 mul-draw-row c =
     let at = c .before .before .before in
-    omega (arith, product-le (at .loop .row) 1024 (sized at .row-bytes .result) 2048 (omega (arith, inside (c .before .before))) (sized at .row-bytes .ensures .1))
+    omega (
+      arith,
+      product-le (at .loop .row) 1024 (sized at .row-bytes .result) 2048 (omega (arith, inside (c .before .before)))
+          (sized at .row-bytes .ensures .1),
+    )
 
 draw-row-requires : tie.Need-draw-row-requires Inv-loop μ-loop
 draw-row-requires c κs =
     let found = c .before .before in
     let at = found .before .before in
+    let row = at .loop .row in
+    let on-panel = inside (found .before) in
     let pre = start at .pre in (
       omega arith,
       λ grey. pre .1 (sym (moded at .mono .ensures) ∙ grey),
-      omega (arith, found .first-word .ensures .0, sized at .before .pagewidth .ensures, pre .0 .inside (at .loop .row) (inside (found .before))),
-      omega (arith, pre .2, at .loop .inv .1 .size, place at, filled at, row-in-frame (start at .args .s .words) (at .loop .row) (inside (found .before))),
+      omega (arith, found .first-word .ensures .0, sized at .before .pagewidth .ensures, pre .0 .inside row on-panel),
+      omega (arith, pre .2, at .loop .inv .1 .size, place at, filled at, row-in-frame (start at .args .s .words) row on-panel),
     )
 
 loop-again : tie.Need-loop-again Inv-loop μ-loop
@@ -73,15 +79,19 @@ loop-again c =
     let found = phased .before in
     let at = found .before .before in
     let a = start at .args in
-    let row = at .loop .row in (
+    let row = at .loop .row in
+    let m = moded at .mono in
+    let swap = sized at .before .before .bswp in (
       omega (arith, found .before .loop-test .taken),
       so-many-stored _ _ _ _ _
-          (some-more _ _ _ _ _ (at .loop .inv .1) _ _ _ _ (drew .draw-row .ensures) (omega (arith, place at))
+          (some-more _ _ _ _ _ (at .loop .inv .1)
+          (rowByte (bitsIn (m .result)) (eqb (swap .result) 1) (a .video .now) (found .first-word .result) (phased .row-phase .result % 420))
+          _ _ _ (drew .draw-row .ensures) (omega (arith, place at))
           (λ j h.
-          byte-by-phase (a .s) (a .video .now) (a .frame) row (bitsIn (moded at .mono .result)) (eqb (sized at .before .before .bswp .result) 1)
-          (found .first-word .result) (phased .row-phase .result % 420) j
-          (ap bitsIn (moded at .mono .ensures) ∙ sym (start at .pre .0 .bits))
-          (ap (λ (n : ℕ). eqb n 1) (sized at .before .before .bswp .ensures))
+          byte-by-phase (a .s) (a .video .now) (a .frame) row (bitsIn (m .result)) (eqb (swap .result) 1) (found .first-word .result)
+          (phased .row-phase .result % 420) j
+          (ap bitsIn (m .ensures) ∙ sym (start at .pre .0 .bits))
+          (ap (λ (n : ℕ). eqb n 1) (swap .ensures))
           (found .first-word .ensures .0)
           (ap (λ (n : ℕ). n % 420) (phased .row-phase .ensures))
           ∙ sym (byte-of-frame (a .s) (a .video .now) (a .frame) row j (omega (arith, h, filled at)))))

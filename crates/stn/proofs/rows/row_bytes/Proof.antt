@@ -1,7 +1,5 @@
 -- `stn::rows::row_bytes` meets its contract.
-use mathlib.Core.Path.{ap}
 use native.Mathlib.Omega.{arith}
-use borrow.Author.Needs.{needs}
 use Rattle.stn.specs.Drawing.{rowBytes}
 use Rattle.stn.proofs.rows.row_bytes.Statement.{statement}
 use Rattle.stn.proofs.rows.row_bytes.Tie as tie

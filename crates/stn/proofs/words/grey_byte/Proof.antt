@@ -1,8 +1,7 @@
 -- `stn::words::grey_byte` meets its contract: a pixel a turn.
 use mathlib.Core.Path.{_≡_, refl, ap, _∙_}
-use Prim.Native.Nat.{_+_, _-_, _/_, _^_, _<_, _≤_}
+use Prim.Native.Nat.{_-_, _^_, _<_, _≤_}
 use native.Mathlib.Omega.{arith}
-use borrow.Author.Needs.{needs}
 use Rattle.pixels.proofs.PixelOrder.{pixel-bits-lt}
 use Rattle.stn.specs.Core.{litIn}
 use Rattle.stn.specs.Greys.{packed}

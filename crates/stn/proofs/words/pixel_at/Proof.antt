@@ -1,6 +1,5 @@
 -- `stn::words::pixel_at` meets its contract.
 use mathlib.Core.Path.{refl, _∙_}
-use native.Mathlib.Omega.{arith}
 use borrow.Author.Needs.{needs}
 use Rattle.pixels.proofs.PixelOrder.{cut-by-shifts, pixel-past}
 use Rattle.stn.proofs.words.pixel_at.Statement.{statement}
