@@ -1,5 +1,5 @@
-/* Speed of picture and row drawing: the library beside a plain C loop for each mode, in one run of one program; and of the scanout:
- * runs and steps beside a plain C scan, and single pixels.
+/* Speed of picture and row drawing: the library beside a plain C loop for each mode, in one run of one program; of STN pictures in
+ * the same way; and of the scanout: runs and steps beside a plain C scan, and single pixels.
  * Both draw the same frame buffer into buffers of their own; the results are compared first. For each mode the two are timed in turn,
  * many rounds, and the fastest round of each counts: this machine's best time, not a promise.
  * The C loops get their numbers ready made and check nothing; the library's calls judge words, memory, palette and picture. */
@@ -111,6 +111,7 @@ struct panel {
     uint32_t words[9];
     size_t stride; /* words from row to row */
     const struct mode *mode;
+    const struct stn_mode *stn; /* or one of these */
 };
 
 static void describe(struct panel *p, const struct mode *m, unsigned width, unsigned height) {
@@ -193,6 +194,107 @@ static void table(unsigned width, unsigned height) {
                best[2] / best[0]);
     }
     printf("| average | | | %.2f | | %.2f |\n", sum[0] / n, sum[1] / n);
+}
+
+/* ---- STN pictures: the n words of a row to bytes of eight pixels, the formula (docs/REFERENCE.md, §5.9) worked out for each grey
+ * one. `sum` is the row and the frame modulo 420, which every d divides: so the division of 32 bits does, which is the faster one */
+
+static const struct {
+    uint32_t n, d;
+} duties[16] = {{0, 1}, {1, 7}, {1, 5}, {1, 4}, {1, 3}, {2, 5}, {3, 7}, {1, 2},
+                {4, 7}, {3, 5}, {2, 3}, {5, 7}, {3, 4}, {4, 5}, {6, 7}, {1, 1}};
+
+static inline uint32_t lit(uint32_t sum, uint32_t level) { return sum * duties[level].n % duties[level].d < duties[level].n; }
+
+#define GREYS(name, order)                                                                                       \
+    static void name(const uint32_t *restrict in, size_t n, uint32_t sum, uint8_t *restrict out) {               \
+        for (size_t i = 0; i < n; i++) {                                                                         \
+            uint32_t x = order(in[i]);                                                                           \
+            uint8_t byte = 0;                                                                                    \
+            for (unsigned k = 0; k < 8; k++)                                                                     \
+                byte = byte << 1 | lit(sum + 8 * i + k, x >> (28 - 4 * k) & 15);                                 \
+            out[i] = byte;                                                                                       \
+        }                                                                                                        \
+    }
+#define MONO(name, order)                                                                                        \
+    static void name(const uint32_t *restrict in, size_t n, uint32_t sum, uint8_t *restrict out) {               \
+        (void)sum;                                                                                               \
+        for (size_t i = 0; i < n; i++) {                                                                         \
+            uint32_t x = order(in[i]);                                                                           \
+            for (unsigned b = 0; b < 4; b++) {                                                                   \
+                uint8_t byte = 0;                                                                                \
+                for (unsigned k = 0; k < 8; k++)                                                                 \
+                    byte = byte << 1 | (x >> (31 - 8 * b - k) & 1);                                              \
+                out[4 * i + b] = byte;                                                                           \
+            }                                                                                                    \
+        }                                                                                                        \
+    }
+
+MONO(mono, keep)
+MONO(monos, swap_bytes)
+GREYS(greys, keep)
+GREYS(greyss, swap_bytes)
+
+struct stn_mode {
+    const char *name;
+    unsigned bppmode, bits, lcdcon5;
+    void (*row)(const uint32_t *, size_t, uint32_t, uint8_t *);
+};
+
+static const struct stn_mode stn_modes[] = {
+    {"mono", 0, 1, 0, mono},
+    {"mono, BSWP", 0, 1, 0x2, monos},
+    {"16 greys", 2, 4, 0, greys},
+    {"16 greys, BSWP", 2, 4, 0x2, greyss},
+};
+
+static uint32_t frame_number;
+
+static void describe_stn(struct panel *p, const struct stn_mode *m, unsigned width, unsigned height) {
+    unsigned pagewidth = width * m->bits / 16;
+    uint32_t words[9] = {0x241 | m->bppmode << 1, (height - 1) << 14, (width / 8 - 1) << 8, 0, m->lcdcon5, 0x18000000,
+                         pagewidth * height, pagewidth, 0};
+    memcpy(p->words, words, sizeof words);
+    p->width = width, p->height = height, p->stride = pagewidth / 2, p->stn = m;
+}
+
+static void our_stn(const struct panel *p) {
+    refuse(lcd_draw_stn(p->words, 9, START, video, p->stride * p->height, frame_number, (uint8_t *)ours, p->width * p->height / 8));
+}
+
+static void their_stn(const struct panel *p) {
+    for (unsigned r = 0; r < p->height; r++)
+        p->stn->row(video + r * p->stride, p->stride, frame_number % 420 + r, (uint8_t *)theirs + r * p->width / 8);
+}
+
+/* Every round draws another frame, to the last one that there is. */
+static void measure_stn(const struct panel *p, double best[2]) {
+    best[0] = best[1] = 1e9;
+    for (int i = 0; i < ROUNDS; i++) {
+        frame_number = UINT32_MAX - ROUNDS + 1 + i;
+        memset(ours, 0, p->width * p->height / 8);
+        double t[2] = {once(their_stn, p), once(our_stn, p)};
+        if (memcmp(ours, theirs, p->width * p->height / 8)) {
+            printf("%s, frame %u: the pictures differ\n", p->stn->name, frame_number);
+            exit(1);
+        }
+        for (int k = 0; k < 2; k++)
+            if (t[k] < best[k])
+                best[k] = t[k];
+    }
+}
+
+static void stn_table(unsigned width, unsigned height) {
+    size_t n = sizeof stn_modes / sizeof *stn_modes;
+    printf("\n%u by %u, STN, ns a pixel\n\n| mode | C | picture | ratio |\n|---|---|---|---|\n", width, height);
+    for (size_t i = 0; i < n; i++) {
+        struct panel p;
+        double best[2];
+        describe_stn(&p, &stn_modes[i], width, height);
+        measure_stn(&p, best);
+        printf("| %s | %.3f | %.3f | %.2f |\n", stn_modes[i].name, best[0] * 1e9 / (width * height),
+               best[1] * 1e9 / (width * height), best[1] / best[0]);
+    }
 }
 
 /* ---- the scanout, with the porches of T8 (docs/REFERENCE.md, §13.1) */
@@ -432,6 +534,8 @@ int main(void) {
         palette[i] = (x = x * 1664525 + 1013904223) >> 16;
     table(320, 240);
     table(640, 480);
+    stn_table(320, 240);
+    stn_table(640, 480);
     scan_tables(320, 240);
     scan_tables(640, 480);
     return 0;

@@ -16,12 +16,13 @@
 #define NUMBER(n) (1u << (n))
 
 #define CALLS(CALL, READ, WRITE, VALUE)                                                                                            \
-    CALL(check, 1, UP_TO(8) | NUMBER(10), READ(WORDS), VALUE(WINDOW_START), READ(VIDEO))                                           \
-    CALL(counts, 1, UP_TO(7) | NUMBER(10), READ(TIMED_WORDS), VALUE(HCLK), WRITE(COUNTS))                                          \
+    CALL(check, 1, UP_TO(8) | NUMBER(10) | NUMBER(17), READ(WORDS), VALUE(WINDOW_START), READ(VIDEO))                              \
+    CALL(counts, 1, UP_TO(7) | NUMBER(10) | NUMBER(17), READ(TIMED_WORDS), VALUE(HCLK), WRITE(COUNTS))                             \
     CALL(draw_pixel, 1, UP_TO(11), READ(WORDS), VALUE(WINDOW_START), READ(VIDEO), READ(PALETTE), VALUE(ROW), VALUE(COLUMN),        \
          WRITE(PIXEL_COLOUR))                                                                                                      \
     CALL(draw_row, 1, UP_TO(11), READ(WORDS), VALUE(WINDOW_START), READ(VIDEO), READ(PALETTE), VALUE(ROW), WRITE(ROW_COLOURS))     \
     CALL(draw_picture, 1, UP_TO(10), READ(WORDS), VALUE(WINDOW_START), READ(VIDEO), READ(PALETTE), WRITE(PICTURE))                 \
+    CALL(draw_stn, 2, UP_TO(10) | NUMBER(17), READ(WORDS), VALUE(WINDOW_START), READ(VIDEO), VALUE(FRAME), WRITE(LIT_BYTES))       \
     CALL(read_fields, 1, UP_TO(1) | NUMBER(10), READ(ANY_WORDS), WRITE(FIELDS_READ))                                               \
     CALL(write_fields, 1, NUMBER(0) | NUMBER(10) | NUMBER(12), READ(FIELDS), WRITE(WORDS_WRITTEN))                                 \
     CALL(read_sizes, 1, UP_TO(1) | NUMBER(10), READ(ANY_WORDS), WRITE(SIZES))                                                      \

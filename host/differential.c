@@ -5,7 +5,7 @@
  *     differential [CASES [SEED]]       so many cases
  *     differential --only CASE [SEED]   this one again
  *
- * It ends with a table of how often each call gave each number. It exits with 1 if archive and model differ, and if in 1,000 cases or
+ * It ends with a table of how often each call gave each number. It exits with 1 if archive and model differ, and if in 2,000 cases or
  * more a call never gave a number that it can give: then the inputs would miss what they are made for. */
 #include <inttypes.h>
 #include <signal.h>
@@ -18,7 +18,7 @@
 #include "inputs.h"
 #include "model.h"
 
-enum { CASES = 20000, SEED = 1, ENOUGH = 1000, FEW = 3 };
+enum { CASES = 20000, SEED = 1, ENOUGH = 2000, FEW = 3 };
 
 /* ---- the calls, from their table */
 

@@ -1,5 +1,5 @@
-/* A small C host: the worked cases T1 and T8 to T10 (docs/REFERENCE.md, §13.1) through the calls of lcd.h. It prints a line for each
- * case that comes out right; where something differs it says what, and exits with 1. */
+/* A small C host: the worked cases T1 and T8 to T10 (docs/REFERENCE.md, §13.1) and a grey panel (§5.9, §6.8) through the calls of lcd.h.
+ * It prints a line for each case that comes out right; where something differs it says what, and exits with 1. */
 #include <inttypes.h>
 #include <stdint.h>
 #include <stdio.h>
@@ -254,6 +254,62 @@ static void t10_one_short(void) {
     puts("T10: 38399 words give 8, and nothing lent is changed");
 }
 
+/* ---- an STN panel, 8 by 2 in 16 greys: levels 0 to 7 in row 0, 8 to 15 in row 1; the numbers are worked out by hand */
+
+static const uint32_t stn_words[9] = {0x245, 0x4000, 0, 0, 0, 0x18000000, 4, 2, 0};
+static const uint32_t stn_video[2] = {0x01234567, 0x89abcdef};
+
+static void stn_frames(void) {
+    static const struct {
+        uint32_t frame;
+        uint8_t due[3];
+    } cases[] = {{0, {0x04, 0x63, 0xaa}}, {6, {0x42, 0xbf, 0xaa}}, {0xffffffff, {0x05, 0xfb, 0xaa}}};
+    for (size_t i = 0; i < sizeof cases / sizeof cases[0]; i++) {
+        uint8_t out[3] = {0xaa, 0xaa, 0xaa};
+        same("STN, frame", lcd_draw_stn(stn_words, 9, START, stn_video, 2, cases[i].frame, out, 3), 0);
+        for (int k = 0; k < 3; k++)
+            same("STN, byte", out[k], cases[i].due[k]);
+    }
+    puts("STN: frames 0, 6 and 2^32 - 1 of 16 greys, 8 by 2");
+}
+
+/* Level 6, 3/7, stands in row 0, column 6: bit 1 of the first byte. */
+static void stn_duty(void) {
+    int lit = 0;
+    for (uint32_t frame = 100; frame < 107; frame++) {
+        uint8_t out[2];
+        same("STN, frame of seven", lcd_draw_stn(stn_words, 9, START, stn_video, 2, frame, out, 2), 0);
+        lit += out[0] >> 1 & 1;
+    }
+    same("STN, level 6 in seven frames", lit, 3);
+    puts("STN: level 6 is lit in 3 of 7 frames");
+}
+
+static void stn_refusals(void) {
+    uint32_t fast[9], out = UNTOUCHED;
+    uint8_t bytes[2] = {0xaa, 0xaa};
+    memcpy(fast, stn_words, sizeof fast);
+    fast[0] = 0x145;
+    same("STN, CLKVAL 1, check", lcd_check(fast, 9, START, stn_video, 2), 17);
+    same("STN, CLKVAL 1", lcd_draw_stn(fast, 9, START, stn_video, 2, 0, bytes, 2), 17);
+    same("STN, CLKVAL 1, one byte short", lcd_draw_stn(fast, 9, START, stn_video, 2, 0, bytes, 1), 10);
+    same("STN, TFT words", lcd_draw_stn(t1_words, 9, START, t1_video, 2, 0, bytes, 2), 2);
+    same("STN, bytes of a refused frame", bytes[0] << 8 | bytes[1], 0xaaaa);
+    same("STN, TFT row", lcd_draw_row(stn_words, 9, START, stn_video, 2, palette, 256, 0, &out, 1), 2);
+    untouched("STN, entry of a refused row", &out, 1);
+    puts("STN: CLKVAL 1 gives 17, the other kind of panel 2, and nothing lent is changed");
+}
+
+static void stn_counts(void) {
+    static const uint32_t words[9] = {0x845, 0x3bc000, 0x8270a, 0xd02, 0, 0x18000000, 0x4b00, 0x50, 0};
+    uint64_t counts[3];
+    same("STN, counts", lcd_counts(words, 9, 60000000, counts, 3), 0);
+    same("STN, clocks", counts[0], 9600);
+    same("STN, ticks", counts[1], 195840);
+    same("STN, millihertz", counts[2], 306372);
+    puts("STN: 816 ticks a line, 306.372 Hz at 60 MHz");
+}
+
 int main(void) {
     t1();
     t1_steps();
@@ -263,5 +319,9 @@ int main(void) {
     t8_sizes();
     t10_suffices();
     t10_one_short();
+    stn_frames();
+    stn_duty();
+    stn_refusals();
+    stn_counts();
     return 0;
 }

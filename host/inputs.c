@@ -10,6 +10,9 @@ enum { LCDSADDR1 = 5, LCDSADDR2 = 6 };
 /* Damaged words may need more memory, or a larger picture, than is worth lending. */
 enum { WORTH = 50000, NOT_LARGE = 5000 };
 
+/* Of 100 panels, those of STN. */
+enum { STN_PANELS = 50 };
+
 /* ---- lengths */
 
 /* A length where so many entries are needed: mostly exactly that, else one less, fewer, one more, or more. */
@@ -186,6 +189,16 @@ static uint64_t some_clocks(const uint32_t *words, uint64_t position) {
     }
 }
 
+/* ---- panels */
+
+static void make_panel(uint32_t *words, enum size size) {
+    make_words(words, chance(STN_PANELS) ? ON_STN : ON_TFT, size);
+}
+
+static uint64_t rows_of(const uint32_t *words) {
+    return get(words, LCD_LINEVAL) + 1;
+}
+
 /* ---- slices of a call */
 
 /* A slice that begins with these entries, as far as it has them. */
@@ -198,7 +211,7 @@ static void lend_words(struct inputs *in, enum kind kind) {
     uint32_t words[LCD_REGISTERS];
     memcpy(words, in->state, sizeof words);
     if (kind == TIMED_WORDS && chance(20))
-        make_words(words, chance(20) ? LARGEST : LARGE);
+        make_panel(words, chance(20) ? LARGEST : LARGE);
     if (kind == ANY_WORDS && chance(70)) {
         make_any_words(words);
         if (chance(40))
@@ -237,12 +250,25 @@ static void lend_scan(struct inputs *in, enum kind kind) {
 }
 
 static void lend_row(struct inputs *in, enum kind kind) {
-    lend_entries(in, kind, get(in->state, LCD_HOZVAL) + 1, sizeof(uint32_t));
+    lend_entries(in, kind, columns_of(in->state), sizeof(uint32_t));
 }
 
+/* A picture in colours; of STN words none is drawn. */
 static void lend_picture(struct inputs *in, enum kind kind) {
-    uint64_t pixels = (get(in->state, LCD_HOZVAL) + 1) * (get(in->state, LCD_LINEVAL) + 1);
-    lend_entries(in, kind, in->sound || pixels < WORTH ? pixels : below(100), sizeof(uint32_t));
+    uint64_t pixels = columns_of(in->state) * rows_of(in->state);
+    bool drawn = in->sound && !is_on_stn(in->state);
+    lend_entries(in, kind, drawn || pixels < WORTH ? pixels : below(100), sizeof(uint32_t));
+}
+
+/* The bytes of an STN drawing: mostly as many as it needs, also none, and far more. */
+static void lend_bytes(struct inputs *in, enum kind kind) {
+    uint64_t needed = columns_of(in->state) / 8 * rows_of(in->state), way = below(16);
+    if (!in->sound && needed > WORTH)
+        needed = below(100);
+    if (way < 2)
+        lend(&in->slices[kind], way == 0 ? 0 : 2 * needed + 1000, sizeof(uint8_t));
+    else
+        lend_entries(in, kind, needed, sizeof(uint8_t));
 }
 
 /* ---- numbers */
@@ -258,11 +284,22 @@ static uint32_t some_index(uint64_t count) {
 }
 
 static void pick_row(struct inputs *in, enum kind kind) {
-    in->numbers[kind] = some_index(get(in->state, LCD_LINEVAL) + 1);
+    in->numbers[kind] = some_index(rows_of(in->state));
 }
 
 static void pick_column(struct inputs *in, enum kind kind) {
-    in->numbers[kind] = some_index(get(in->state, LCD_HOZVAL) + 1);
+    in->numbers[kind] = some_index(columns_of(in->state));
+}
+
+/* A frame: one of the first, any, or one of the last: with some rows and columns added, past 32 bits. */
+static void pick_frame(struct inputs *in, enum kind kind) {
+    uint64_t way = below(8);
+    if (way < 3)
+        in->numbers[kind] = way < 2 ? way : below(500);
+    else if (way < 6)
+        in->numbers[kind] = UINT32_MAX - (way == 3 ? 0 : below(rows_of(in->state) + columns_of(in->state)));
+    else
+        in->numbers[kind] = (uint32_t)random64();
 }
 
 static void pick_hclk(struct inputs *in, enum kind kind) {
@@ -307,6 +344,7 @@ static const struct {
     [PIXEL_COLOUR] = {.name = "out", .entries = 1, .bytes = 4},
     [ROW_COLOURS] = {.name = "out", .make = lend_row},
     [PICTURE] = {.name = "picture", .make = lend_picture},
+    [LIT_BYTES] = {.name = "out", .make = lend_bytes},
     [FIELDS_READ] = {.name = "fields", .entries = LCD_FIELDS, .bytes = 4},
     [WORDS_WRITTEN] = {.name = "words", .entries = LCD_REGISTERS, .bytes = 4},
     [SIZES] = {.name = "sizes", .entries = LCD_SIZES, .bytes = 4},
@@ -314,6 +352,7 @@ static const struct {
     [HCLK] = {.name = "hclk", .make = pick_hclk},
     [ROW] = {.name = "row", .make = pick_row},
     [COLUMN] = {.name = "column", .make = pick_column},
+    [FRAME] = {.name = "frame", .make = pick_frame},
     [CLOCKS] = {.name = "clocks", .make = pick_clocks},
     [NEW_LCDSADDR1] = {.name = "lcdsaddr1", .make = pick_view},
     [NEW_LCDSADDR2] = {.name = "lcdsaddr2"},
@@ -343,7 +382,7 @@ void begin_single_calls(struct inputs *in) {
     int faults = way < 50 ? 0 : way < 82 ? 1 : way < 97 ? 2 : 3;
     memset(in, 0, sizeof *in);
     in->sound = faults == 0;
-    make_words(in->state, some_size());
+    make_panel(in->state, some_size());
     for (int i = 0; i < faults; i++)
         damage(in->state);
     lend_window(in);
@@ -352,7 +391,7 @@ void begin_single_calls(struct inputs *in) {
 void begin_list(struct inputs *in) {
     memset(in, 0, sizeof *in);
     in->sound = in->in_list = true;
-    make_words(in->state, SMALL);
+    make_words(in->state, ON_TFT, SMALL);
     lend_window(in);
 }
 
@@ -380,7 +419,9 @@ void begin_call_of_list(struct inputs *in) {
     if (chance(3))
         prefill(&in->slices[VIDEO]);
     in->harmed = chance(4);
-    if (in->harmed)
+    if (in->harmed && chance(10))
+        put(lent, LCD_PNRMODE, ON_STN);
+    else if (in->harmed)
         flip_bit(lent, LCD_SCAN_ENTRIES);
     set_entries(&in->slices[SCAN], lent, LCD_SCAN_ENTRIES);
 }

@@ -16,9 +16,9 @@ enum kind {
     ANY_WORDS,   /* or of any fields */
     VIDEO, PALETTE, FIELDS,
     /* slices to write, the scan also to read */
-    SCAN, NEW_SCAN, CLOCK, TAKEN, COUNTS, PIXEL_COLOUR, ROW_COLOURS, PICTURE, FIELDS_READ, WORDS_WRITTEN, SIZES,
+    SCAN, NEW_SCAN, CLOCK, TAKEN, COUNTS, PIXEL_COLOUR, ROW_COLOURS, PICTURE, LIT_BYTES, FIELDS_READ, WORDS_WRITTEN, SIZES,
     /* numbers */
-    NUMBERS, WINDOW_START = NUMBERS, HCLK, ROW, COLUMN, CLOCKS, NEW_LCDSADDR1, NEW_LCDSADDR2,
+    NUMBERS, WINDOW_START = NUMBERS, HCLK, ROW, COLUMN, FRAME, CLOCKS, NEW_LCDSADDR1, NEW_LCDSADDR2,
     KINDS
 };
 
@@ -37,7 +37,7 @@ bool is_slice(enum kind kind);
 /* Begins a case of single calls: a panel with up to three faults, memory and a palette. */
 void begin_single_calls(struct inputs *in);
 
-/* Begins a list of calls on one scan: a small panel without a fault, and memory for several viewports. */
+/* Begins a list of calls on one scan: a small TFT panel without a fault, and memory for several viewports. */
 void begin_list(struct inputs *in);
 
 /* Makes an argument for the next call: a number, or a slice that is not lent yet. */
@@ -47,7 +47,8 @@ void supply(struct inputs *in, enum kind kind);
 void end_call(struct inputs *in);
 void end_case(struct inputs *in);
 
-/* Around each call of a list: the scan is as the call before left it, sometimes with a bit changed, which is mostly put right after. */
+/* Around each call of a list: the scan is as the call before left it, sometimes with a bit changed or with PNRMODE of STN, which is
+ * mostly put right after. */
 void begin_call_of_list(struct inputs *in);
 void end_call_of_list(struct inputs *in);
 

@@ -13,6 +13,9 @@
  * Of several numbers the lowest is returned (§9.2), with one exception: 10 comes first where there are fewer than nine words, or
  * where a scan that is read has fewer than 13 entries. §9.3 has each call's order; W and H are width and height.
  *
+ * The calls about the words alone and the check take TFT panels (PNRMODE 3) and STN panels (PNRMODE 2); lcd_draw_stn takes STN panels,
+ * every other drawing and the scan TFT panels. Another panel is refused by 2.
+ *
  * The calls keep nothing between them, allocate nothing and may run on several threads at a time. Where a length is 0, its pointer
  * may be any aligned address but not null. A slice that a call writes must not overlap another slice of the same call. */
 #ifndef LCD_H
@@ -27,8 +30,8 @@ extern "C" {
 
 /* The version of this interface: the first number grows when a call changes, the second when something is added. */
 #define LCD_VERSION_MAJOR 2
-#define LCD_VERSION_MINOR 0
-#define LCD_VERSION "2.0"
+#define LCD_VERSION_MINOR 1
+#define LCD_VERSION "2.1"
 
 /* How many words and how many palette entries there are. */
 enum { LCD_REGISTERS = 9, LCD_PALETTE_ENTRIES = 256 };
@@ -37,8 +40,8 @@ enum { LCD_REGISTERS = 9, LCD_PALETTE_ENTRIES = 256 };
  * a pixel. No call returns 14: programs give it for their input. */
 #define LCD_REFUSALS(R)                                                                                                            \
     R(1, "a reserved bit is set")                                                                                                  \
-    R(2, "PNRMODE is not 3, TFT")                                                                                                  \
-    R(3, "BPPMODE is outside 8..13")                                                                                               \
+    R(2, "PNRMODE selects no panel that the call takes: 3 is TFT, 2 is STN, 8-bit single scan")                                    \
+    R(3, "BPPMODE is no mode of the panel: 8..13 on TFT, 0 and 2 on STN")                                                          \
     R(4, "BSWP or HWSWP is set where the mode doesn't allow it")                                                                   \
     R(5, "a row in memory doesn't fit the width: 16 x PAGEWIDTH differs from W x S, or LCDBASEU, PAGEWIDTH or OFFSIZE is odd")     \
     R(6, "LCDBASEL isn't where a row after the last would begin: LCDBASEU + (PAGEWIDTH + OFFSIZE) x H, modulo 2^21")               \
@@ -50,19 +53,20 @@ enum { LCD_REGISTERS = 9, LCD_PALETTE_ENTRIES = 256 };
     R(12, "a number is too wide for its field")                                                                                    \
     R(13, "LCDBANK of the pending viewport, or of the new one, differs from that in force")                                        \
     R(14, "the input has under 556 bytes, or its video memory is no multiple of 4 bytes, or more than the program takes")         \
-    R(15, "the position is not below the frame's clocks")
+    R(15, "the position is not below the frame's clocks")                                                                          \
+    R(17, "CLKVAL is below 2 on an STN panel")
 
 /* The text of a number of refusal. 0 and numbers that are no refusal have a text too, so the result can always be printed. It is in
  * lcd_refusals.c, to be compiled with the program; the archive does not have it. */
 const char *lcd_refusal_text(uint32_t number);
 
 /* Checks that the words are good and that every word of every row lies in the lent memory (§3.6). Writes nothing.
- * Refuses 10 (fewer than nine words), then 1 to 8. */
+ * Refuses 10 (fewer than nine words), then 1 to 8, 17. */
 uint32_t lcd_check(const uint32_t *words, size_t words_len, uint32_t window_start, const uint32_t *video, size_t video_len);
 
 /* Writes a frame's length and rate (§6.3, §6.4) to the first three entries of `counts`: clocks; HCLK ticks; the frame rate in
  * millihertz at an HCLK of `hclk` Hz, rounded down. Further entries stay.
- * Refuses 10 (fewer than nine words), then 1 to 7, then 10 (`counts` has fewer than three entries). */
+ * Refuses 10 (fewer than nine words), then 1 to 7, then 10 (`counts` has fewer than three entries), 17. */
 uint32_t lcd_counts(const uint32_t *words, size_t words_len, uint32_t hclk, uint64_t *counts, size_t counts_len);
 
 /* Draws the pixel in row `row` and column `column`, both counted from 0, to the first entry of `out` (§5.6): a colour 0xRRGGBB,
@@ -83,6 +87,13 @@ uint32_t lcd_draw_picture(const uint32_t *words, size_t words_len, uint32_t wind
                           size_t video_len, const uint16_t *palette, size_t palette_len, uint32_t *picture,
                           size_t picture_len);
 
+/* Draws frame `frame` of an STN panel, row by row, to the first W x H / 8 bytes of `out` (§5.10): one byte for eight pixels, the
+ * leftmost in bit 7, 1 for a lit pixel, before INVVD. Further bytes stay. A mono pixel is lit where its bit is 1; a grey by its duty, in
+ * some frames and not in others (§5.9).
+ * Refuses 10 (fewer than nine words), then 1 to 9, then 10 (fewer than W x H / 8 bytes in `out`), 17. */
+uint32_t lcd_draw_stn(const uint32_t *words, size_t words_len, uint32_t window_start, const uint32_t *video, size_t video_len,
+                      uint32_t frame, uint8_t *out, size_t out_len);
+
 /* ---- the words field by field (§10.2)
  *
  * The writable fields (§1.2) in the order of the words and, within a word, from its highest bits down. The read-only LINECNT, VSTATUS
@@ -102,22 +113,26 @@ enum lcd_field {
     LCD_FIELDS
 };
 
+/* The fields that only an STN panel has (§1.7): they lie in bits of these, and are read and written in their entries. */
+enum { LCD_WDLY = LCD_HBPD, LCD_LINEBLANK = LCD_HFPD, LCD_WLH = LCD_HSPW };
+
 /* Reads the 34 fields of the nine words into the first 34 entries of `fields`. Further entries stay.
  * Refuses 10 (fewer than nine words), then 1, then 10 (`fields` has fewer than 34 entries). */
 uint32_t lcd_read_fields(const uint32_t *words, size_t words_len, uint32_t *fields, size_t fields_len);
 
 /* Packs the first 34 entries of `fields` into the first nine entries of `words`; read-only bits become 0. Further entries stay.
- * lcd_read_fields reads the same fields back (§1.6).
+ * lcd_read_fields reads the same fields back (§1.6), unless PNRMODE is 2 and a field sets a bit that is reserved there (§1.7).
  * Refuses 10 (`fields` has fewer than 34 entries, or `words` fewer than nine), then 12. */
 uint32_t lcd_write_fields(const uint32_t *fields, size_t fields_len, uint32_t *words, size_t words_len);
 
-/* The sizes of the panel (§10.3); each is at least 1, except that the stored bits may be 0. */
+/* The sizes of the panel (§10.3). On TFT each is at least 1, except that the stored bits may be 0. On STN a line has no clocks but its
+ * HOZVAL + 1 active ones and a frame no lines but its H: the syncs and porches are 0. */
 enum lcd_size {
     LCD_SIZE_WIDTH,       /* pixels in a row, W */
     LCD_SIZE_HEIGHT,      /* rows, H */
-    LCD_SIZE_STORED_BITS, /* stored bits of a pixel, S; 0 where BPPMODE is outside 8..13 */
-    LCD_SIZE_TICKS,       /* HCLK ticks of a clock */
-    LCD_SIZE_HSYNC,       /* clocks of a line: sync, back porch, front porch, and the whole line with its W active ones */
+    LCD_SIZE_STORED_BITS, /* stored bits of a pixel, S; 0 where BPPMODE is no mode of the panel */
+    LCD_SIZE_TICKS,       /* HCLK ticks of a clock: 2 x (CLKVAL + 1), on STN 2 x CLKVAL */
+    LCD_SIZE_HSYNC,       /* clocks of a line: sync, back porch, front porch, and the whole line with its active ones */
     LCD_SIZE_HBACK,
     LCD_SIZE_HFRONT,
     LCD_SIZE_LINE,

@@ -54,29 +54,40 @@ static void write_levels(const uint32_t *words, const struct clock *shown, uint3
 
 /* ---- the refusals (§9.1) */
 
-/* 1 (§1.3): a bit is set outside the fields; what remains of the words when all fields are cleared. */
+/* 1 (§1.3, §1.7): a bit is set outside the fields; what remains of the words when all that the panel has are cleared. */
 static bool a_reserved_bit_is_set(const uint32_t *words) {
     uint32_t rest[MODEL_WORDS];
     memcpy(rest, words, sizeof rest);
     for (int name = 0; name < MODEL_FIELDS; name++)
-        rest[model_fields[name].word] &= ~(uint32_t)(model_limit(name) << model_fields[name].low);
+        if (has_field(words, name))
+            rest[model_fields[name].word] &= ~(uint32_t)(model_limit(name) << model_fields[name].low);
     for (int i = 0; i < MODEL_WORDS; i++)
         if (rest[i] != 0)
             return true;
     return false;
 }
 
-/* 2 (§2.2): the panel is not TFT */
-static bool pnrmode_is_not_3(const uint32_t *words) {
-    return field(words, LCD_PNRMODE) != 3;
+/* The panels that a call takes (§9.3): of either kind, or of one. */
+enum panels { EITHER, TFT, STN };
+
+/* 2 (§2.2, §2.3): the call does not take the panel */
+static bool panel_is_not_taken(enum panels panels, const uint32_t *words) {
+    bool is_tft = field(words, LCD_PNRMODE) == 3;
+    switch (panels) {
+    case TFT: return !is_tft;
+    case STN: return !is_stn(words);
+    default: return !is_tft && !is_stn(words);
+    }
 }
 
-/* 3 (§2.2): BPPMODE is no mode */
+/* 3 (§2.2, §2.3): BPPMODE is no mode of the panel */
 static bool bppmode_is_outside(const uint32_t *words) {
+    if (is_stn(words))
+        return field(words, LCD_BPPMODE) != 0 && field(words, LCD_BPPMODE) != 2;
     return field(words, LCD_BPPMODE) < 8 || field(words, LCD_BPPMODE) > 13;
 }
 
-/* 4 (§4.4): BSWP above 8 bits, HWSWP at other than 16, or both */
+/* 4 (§4.4): BSWP above 8 bits, HWSWP at other than 16, or both; so on STN, at 1 and 4 bits, HWSWP */
 static bool swap_bits_are_not_legal(const uint32_t *words) {
     bool bswp = field(words, LCD_BSWP) == 1, hwswp = field(words, LCD_HWSWP) == 1;
     return (bswp && stored_bits(words) > 8) || (hwswp && stored_bits(words) != 16) || (bswp && hwswp);
@@ -131,10 +142,15 @@ static bool position_is_not_below(const struct state *state) {
     return state->position >= frame_clocks(state->words);
 }
 
-static bool applies(uint32_t number, const uint32_t *words, const struct memory *memory) {
+/* 17 (§9.1): an STN panel's clock is too short */
+static bool clkval_is_too_low(const uint32_t *words) {
+    return is_stn(words) && field(words, LCD_CLKVAL) < 2;
+}
+
+static bool applies(uint32_t number, enum panels panels, const uint32_t *words, const struct memory *memory) {
     switch (number) {
     case 1: return a_reserved_bit_is_set(words);
-    case 2: return pnrmode_is_not_3(words);
+    case 2: return panel_is_not_taken(panels, words);
     case 3: return bppmode_is_outside(words);
     case 4: return swap_bits_are_not_legal(words);
     case 5: return rows_do_not_fit(words);
@@ -146,10 +162,10 @@ static bool applies(uint32_t number, const uint32_t *words, const struct memory 
 }
 
 /* The lowest number of 1 to `last` that applies (§9.2), over all viewports that the call judges (§9.4). */
-static uint32_t lowest(uint32_t last, const uint32_t *const *views, int count, const struct memory *memory) {
+static uint32_t lowest(uint32_t last, enum panels panels, const uint32_t *const *views, int count, const struct memory *memory) {
     for (uint32_t number = 1; number <= last; number++)
         for (int i = 0; i < count; i++)
-            if (applies(number, views[i], memory))
+            if (applies(number, panels, views[i], memory))
                 return number;
     return 0;
 }
@@ -162,23 +178,27 @@ static void view_in(uint32_t *view, const uint32_t *words, uint32_t lcdsaddr1, u
 }
 
 /* 10 for fewer than nine words, which comes first (§9.3), then 1 to `last`. */
-static uint32_t lowest_of_slice(uint32_t last, const uint32_t *words, size_t words_len, const struct memory *memory) {
-    return words_len < MODEL_WORDS ? 10 : lowest(last, &words, 1, memory);
+static uint32_t lowest_of_slice(uint32_t last, enum panels panels, const uint32_t *words, size_t words_len,
+                                const struct memory *memory) {
+    return words_len < MODEL_WORDS ? 10 : lowest(last, panels, &words, 1, memory);
 }
 
 /* ---- the calls on words (§9.3 has each call's order of refusals) */
 
 uint32_t model_check(const uint32_t *words, size_t words_len, uint32_t window_start, const uint32_t *video, size_t video_len) {
     struct memory memory = {window_start, video, video_len};
-    return lowest_of_slice(8, words, words_len, &memory);
+    uint32_t number = lowest_of_slice(8, EITHER, words, words_len, &memory);
+    return number == 0 && clkval_is_too_low(words) ? 17 : number;
 }
 
 uint32_t model_counts(const uint32_t *words, size_t words_len, uint32_t hclk, uint64_t *counts, size_t counts_len) {
-    uint32_t number = lowest_of_slice(7, words, words_len, NULL);
+    uint32_t number = lowest_of_slice(7, EITHER, words, words_len, NULL);
     if (number != 0)
         return number;
     if (counts_len < 3)
         return 10;
+    if (clkval_is_too_low(words))
+        return 17;
     counts[0] = frame_clocks(words);
     counts[1] = frame_ticks(words);
     counts[2] = rate(words, hclk);
@@ -189,7 +209,7 @@ uint32_t model_draw_pixel(const uint32_t *words, size_t words_len, uint32_t wind
                           const uint16_t *palette, size_t palette_len, uint32_t row, uint32_t column, uint32_t *out,
                           size_t out_len) {
     struct memory memory = {window_start, video, video_len};
-    uint32_t number = lowest_of_slice(9, words, words_len, &memory);
+    uint32_t number = lowest_of_slice(9, TFT, words, words_len, &memory);
     if (number != 0)
         return number;
     if (palette_len != 256 || out_len < 1)
@@ -204,7 +224,7 @@ uint32_t model_draw_pixel(const uint32_t *words, size_t words_len, uint32_t wind
 uint32_t model_draw_row(const uint32_t *words, size_t words_len, uint32_t window_start, const uint32_t *video, size_t video_len,
                         const uint16_t *palette, size_t palette_len, uint32_t row, uint32_t *out, size_t out_len) {
     struct memory memory = {window_start, video, video_len};
-    uint32_t number = lowest_of_slice(9, words, words_len, &memory);
+    uint32_t number = lowest_of_slice(9, TFT, words, words_len, &memory);
     if (number != 0)
         return number;
     if (palette_len != 256 || out_len < width(words))
@@ -221,7 +241,7 @@ uint32_t model_draw_picture(const uint32_t *words, size_t words_len, uint32_t wi
                             size_t video_len, const uint16_t *palette, size_t palette_len, uint32_t *picture,
                             size_t picture_len) {
     struct memory memory = {window_start, video, video_len};
-    uint32_t number = lowest_of_slice(9, words, words_len, &memory);
+    uint32_t number = lowest_of_slice(9, TFT, words, words_len, &memory);
     if (number != 0)
         return number;
     if (palette_len != 256 || picture_len < width(words) * height(words))
@@ -232,11 +252,38 @@ uint32_t model_draw_picture(const uint32_t *words, size_t words_len, uint32_t wi
     return 0;
 }
 
+/* The byte of eight pixels of a row, the leftmost in bit 7 (§5.10). */
+static uint8_t eight_pixels(const uint32_t *words, const struct memory *memory, uint64_t frame, uint64_t row, uint64_t first) {
+    uint8_t byte = 0;
+    for (int i = 0; i < 8; i++)
+        if (is_lit(words, memory, frame, row, first + i))
+            byte |= 1 << (7 - i);
+    return byte;
+}
+
+/* Writes W / 8 bytes a row; further ones stay (§5.10). */
+uint32_t model_draw_stn(const uint32_t *words, size_t words_len, uint32_t window_start, const uint32_t *video, size_t video_len,
+                        uint32_t frame, uint8_t *out, size_t out_len) {
+    struct memory memory = {window_start, video, video_len};
+    uint32_t number = lowest_of_slice(9, STN, words, words_len, &memory);
+    if (number != 0)
+        return number;
+    uint64_t a_row = width(words) / 8;
+    if (out_len < height(words) * a_row)
+        return 10;
+    if (clkval_is_too_low(words))
+        return 17;
+    for (uint64_t row = 0; row < height(words); row++)
+        for (uint64_t i = 0; i < a_row; i++)
+            out[row * a_row + i] = eight_pixels(words, &memory, frame, row, 8 * i);
+    return 0;
+}
+
 /* ---- fields and sizes (§10.2, §10.3) */
 
 /* After 10 for short words these calls judge 1 alone, then 10 for the slice that they write. */
 static uint32_t refusal_of_reading(const uint32_t *words, size_t words_len, size_t len, size_t needed) {
-    uint32_t number = lowest_of_slice(1, words, words_len, NULL);
+    uint32_t number = lowest_of_slice(1, EITHER, words, words_len, NULL);
     return number == 0 && len < needed ? 10 : number;
 }
 
@@ -271,6 +318,11 @@ uint32_t model_write_fields(const uint32_t *fields, size_t fields_len, uint32_t 
     return 0;
 }
 
+/* A sync's or a porch's clocks or lines: one more than its field says, none on STN (§6.8). */
+static uint32_t part(const uint32_t *words, int name) {
+    return is_stn(words) ? 0 : field(words, name) + 1;
+}
+
 uint32_t model_read_sizes(const uint32_t *words, size_t words_len, uint32_t *sizes, size_t sizes_len) {
     uint32_t number = refusal_of_reading(words, words_len, sizes_len, LCD_SIZES);
     if (number != 0)
@@ -278,14 +330,14 @@ uint32_t model_read_sizes(const uint32_t *words, size_t words_len, uint32_t *siz
     sizes[LCD_SIZE_WIDTH] = width(words);
     sizes[LCD_SIZE_HEIGHT] = height(words);
     sizes[LCD_SIZE_STORED_BITS] = stored_bits(words);
-    sizes[LCD_SIZE_TICKS] = 2 * (field(words, LCD_CLKVAL) + 1);
-    sizes[LCD_SIZE_HSYNC] = field(words, LCD_HSPW) + 1;
-    sizes[LCD_SIZE_HBACK] = field(words, LCD_HBPD) + 1;
-    sizes[LCD_SIZE_HFRONT] = field(words, LCD_HFPD) + 1;
+    sizes[LCD_SIZE_TICKS] = clock_ticks(words);
+    sizes[LCD_SIZE_HSYNC] = part(words, LCD_HSPW);
+    sizes[LCD_SIZE_HBACK] = part(words, LCD_HBPD);
+    sizes[LCD_SIZE_HFRONT] = part(words, LCD_HFPD);
     sizes[LCD_SIZE_LINE] = line_length(words);
-    sizes[LCD_SIZE_VSYNC] = field(words, LCD_VSPW) + 1;
-    sizes[LCD_SIZE_VBACK] = field(words, LCD_VBPD) + 1;
-    sizes[LCD_SIZE_VFRONT] = field(words, LCD_VFPD) + 1;
+    sizes[LCD_SIZE_VSYNC] = part(words, LCD_VSPW);
+    sizes[LCD_SIZE_VBACK] = part(words, LCD_VBPD);
+    sizes[LCD_SIZE_VFRONT] = part(words, LCD_VFPD);
     sizes[LCD_SIZE_FRAME] = frame_height(words);
     return 0;
 }
@@ -296,7 +348,7 @@ uint32_t model_read_sizes(const uint32_t *words, size_t words_len, uint32_t *siz
 uint32_t model_start(const uint32_t *words, size_t words_len, uint32_t window_start, const uint32_t *video, size_t video_len,
                      uint32_t *scan, size_t scan_len) {
     struct memory memory = {window_start, video, video_len};
-    uint32_t number = lowest_of_slice(9, words, words_len, &memory);
+    uint32_t number = lowest_of_slice(9, TFT, words, words_len, &memory);
     if (number != 0)
         return number;
     if (scan_len < LCD_SCAN_ENTRIES)
@@ -313,7 +365,7 @@ static uint32_t lowest_of_state(const struct state *state, const struct memory *
     uint32_t waiting[MODEL_WORDS];
     const uint32_t *views[2] = {state->words, waiting};
     view_in(waiting, state->words, state->waiting1, state->waiting2);
-    return lowest(9, views, 2, memory);
+    return lowest(9, TFT, views, 2, memory);
 }
 
 /* 13 and 15 of a state; a step or run judges 10 before them (§9.3). */
@@ -389,7 +441,7 @@ uint32_t model_change_viewport(uint32_t *scan, size_t scan_len, const uint32_t *
     const uint32_t *views[3] = {state.words, waiting, new_view};
     view_in(waiting, state.words, state.waiting1, state.waiting2);
     view_in(new_view, state.words, lcdsaddr1, lcdsaddr2);
-    uint32_t number = lowest(9, views, 3, &memory);
+    uint32_t number = lowest(9, TFT, views, 3, &memory);
     if (number != 0)
         return number;
     if (lcdbank_differs(waiting, state.words) || lcdbank_differs(new_view, state.words))

@@ -13,8 +13,12 @@
 
 enum { MODEL_WORDS = 9 };
 
-/* The read-only fields, which follow the 34 writable ones of lcd.h. */
-enum model_read_only { MODEL_LINECNT = LCD_FIELDS, MODEL_VSTATUS, MODEL_HSTATUS, MODEL_FIELDS };
+/* Further fields, which follow the 34 writable ones of lcd.h: the read-only ones, then those that STN panels alone have (§1.7). */
+enum model_further {
+    MODEL_LINECNT = LCD_FIELDS, MODEL_VSTATUS, MODEL_HSTATUS,
+    MODEL_WDLY, MODEL_LINEBLANK, MODEL_WLH,
+    MODEL_FIELDS
+};
 
 /* Where a field lies: its word, counted from 0, and its highest and lowest bit. */
 struct model_field {

@@ -3,7 +3,7 @@
 
 /* ---- the nine words (§1, §2) */
 
-/* Each field's word, highest and lowest bit (§1.2). */
+/* Each field's word, highest and lowest bit (§1.2, §1.7). */
 const struct model_field model_fields[MODEL_FIELDS] = {
     [MODEL_LINECNT] = {LCDCON1, 27, 18}, [LCD_CLKVAL] = {LCDCON1, 17, 8}, [LCD_MMODE] = {LCDCON1, 7, 7},
     [LCD_PNRMODE] = {LCDCON1, 6, 5}, [LCD_BPPMODE] = {LCDCON1, 4, 1}, [LCD_ENVID] = {LCDCON1, 0, 0},
@@ -20,6 +20,7 @@ const struct model_field model_fields[MODEL_FIELDS] = {
     [LCD_LCDBASEL] = {LCDSADDR2, 20, 0},
     [LCD_OFFSIZE] = {LCDSADDR3, 21, 11}, [LCD_PAGEWIDTH] = {LCDSADDR3, 10, 0},
     [LCD_TPALEN] = {TPAL, 24, 24}, [LCD_TPALVAL] = {TPAL, 23, 0},
+    [MODEL_WDLY] = {LCDCON3, 20, 19}, [MODEL_LINEBLANK] = {LCDCON3, 7, 0}, [MODEL_WLH] = {LCDCON4, 1, 0},
 };
 
 uint64_t model_limit(int name) {
@@ -27,9 +28,21 @@ uint64_t model_limit(int name) {
     return ((uint64_t)1 << bits) - 1;
 }
 
-/* W (§2.1). */
+bool is_stn(const uint32_t *words) {
+    return field(words, LCD_PNRMODE) == 2;
+}
+
+bool has_field(const uint32_t *words, int name) {
+    switch (name) {
+    case LCD_HBPD: case LCD_HFPD: case LCD_HSPW: case LCD_TPALEN: case LCD_TPALVAL: return !is_stn(words);
+    case MODEL_WDLY: case MODEL_LINEBLANK: case MODEL_WLH: return is_stn(words);
+    default: return true;
+    }
+}
+
+/* W (§2.1); on STN a clock brings eight pixels (§2.3). */
 uint64_t width(const uint32_t *words) {
-    return field(words, LCD_HOZVAL) + 1;
+    return is_stn(words) ? 8 * (field(words, LCD_HOZVAL) + 1) : field(words, LCD_HOZVAL) + 1;
 }
 
 /* H (§2.1). */
@@ -37,8 +50,19 @@ uint64_t height(const uint32_t *words) {
     return field(words, LCD_LINEVAL) + 1;
 }
 
+/* S of mono and of 16 greys (§2.3). */
+static uint64_t stn_stored_bits(const uint32_t *words) {
+    switch (field(words, LCD_BPPMODE)) {
+    case 0: return 1;
+    case 2: return 4;
+    default: return 0;
+    }
+}
+
 /* S (§2.2): 24-bit pixels take a whole word. */
 uint64_t stored_bits(const uint32_t *words) {
+    if (is_stn(words))
+        return stn_stored_bits(words);
     switch (field(words, LCD_BPPMODE)) {
     case 8: return 1;
     case 9: return 2;
@@ -127,26 +151,63 @@ uint32_t colour(const uint32_t *words, const struct memory *memory, const uint16
     return colour_of_16_bits(words, palette[pixel]);
 }
 
+/* ---- pixels of an STN panel (§5.8, §5.9) */
+
+/* By grey level: lit in n of d frames. */
+static const struct {
+    uint64_t n, d;
+} duties[16] = {{0, 1}, {1, 7}, {1, 5}, {1, 4}, {1, 3}, {2, 5}, {3, 7}, {1, 2},
+                {4, 7}, {3, 5}, {2, 3}, {5, 7}, {3, 4}, {4, 5}, {6, 7}, {1, 1}};
+
+/* A mono pixel is its bit; a grey's frames also differ from row to row and from column to column. The sum is exact. */
+bool is_lit(const uint32_t *words, const struct memory *memory, uint64_t frame, uint64_t row, uint64_t column) {
+    uint32_t pixel = stored_pixel(words, memory, row, column);
+    if (stored_bits(words) == 1)
+        return pixel == 1;
+    return (frame + row + column) * duties[pixel].n % duties[pixel].d < duties[pixel].n;
+}
+
 /* ---- line and frame (§6) */
 
-/* C (§6.1): sync, back porch, active and front porch clocks. */
+/* C (§6.1): sync, back porch, active and front porch clocks. An STN line's clocks are all active (§6.8). */
 uint64_t line_length(const uint32_t *words) {
+    if (is_stn(words))
+        return field(words, LCD_HOZVAL) + 1;
     return (field(words, LCD_HSPW) + 1) + (field(words, LCD_HBPD) + 1) + width(words) + (field(words, LCD_HFPD) + 1);
 }
 
-/* L (§6.2): the same parts in lines. */
+/* L (§6.2): the same parts in lines. An STN frame's lines are its rows (§6.8). */
 uint64_t frame_height(const uint32_t *words) {
+    if (is_stn(words))
+        return height(words);
     return (field(words, LCD_VSPW) + 1) + (field(words, LCD_VBPD) + 1) + height(words) + (field(words, LCD_VFPD) + 1);
 }
 
-/* L x C (§6.3). */
+/* L x C (§6.3, §6.8). */
 uint64_t frame_clocks(const uint32_t *words) {
     return frame_height(words) * line_length(words);
 }
 
-/* 2 x (CLKVAL+1) ticks for each clock (§6.3). */
+/* 2 x (CLKVAL+1) (§6.3), on STN 2 x CLKVAL (§6.8). */
+uint64_t clock_ticks(const uint32_t *words) {
+    return is_stn(words) ? 2 * field(words, LCD_CLKVAL) : 2 * (field(words, LCD_CLKVAL) + 1);
+}
+
+/* Ticks of WLH's and WDLY's pulse (§6.8). */
+static uint64_t pulse(uint64_t n) {
+    return (uint64_t)1 << (4 + n);
+}
+
+/* After its clocks an STN line takes two pulses and LINEBLANK times eight ticks (§6.8). */
+static uint64_t line_ticks(const uint32_t *words) {
+    uint64_t clocks = clock_ticks(words) * line_length(words);
+    if (!is_stn(words))
+        return clocks;
+    return clocks + pulse(field(words, MODEL_WLH)) + pulse(field(words, MODEL_WDLY)) + 8 * field(words, MODEL_LINEBLANK);
+}
+
 uint64_t frame_ticks(const uint32_t *words) {
-    return 2 * (field(words, LCD_CLKVAL) + 1) * frame_height(words) * line_length(words);
+    return frame_height(words) * line_ticks(words);
 }
 
 /* One division, rounded down once (§6.4). The product is exact: below 2^42. */

@@ -15,11 +15,17 @@ static inline uint64_t field(const uint32_t *words, int name) {
     return (words[model_fields[name].word] >> model_fields[name].low) & model_limit(name);
 }
 
-/* In pixels (§2.1). */
+/* Whether the words are an STN panel's (§2.3). The rules of TFT are for all others. */
+bool is_stn(const uint32_t *words);
+
+/* Whether a panel has a field: one of TFT lacks three of them, one of STN five (§1.7). */
+bool has_field(const uint32_t *words, int name);
+
+/* In pixels (§2.1, §2.3). */
 uint64_t width(const uint32_t *words);
 uint64_t height(const uint32_t *words);
 
-/* Stored bits of a pixel (§2.2); 0 where BPPMODE is no mode. */
+/* Stored bits of a pixel (§2.2, §2.3); 0 where BPPMODE is no mode of the panel. */
 uint64_t stored_bits(const uint32_t *words);
 
 /* The lent words, and the byte address of the first: the window start (§3.1). */
@@ -38,7 +44,13 @@ uint64_t row_start(const uint32_t *words, uint64_t row);
 /* The colour of a pixel, before INVVD (§5.5). */
 uint32_t colour(const uint32_t *words, const struct memory *memory, const uint16_t *palette, uint64_t row, uint64_t column);
 
-/* In clocks (§6.1), in lines (§6.2), in clocks and in HCLK ticks (§6.3), in millihertz (§6.4). */
+/* Whether a pixel of an STN panel is lit in a frame (§5.9). */
+bool is_lit(const uint32_t *words, const struct memory *memory, uint64_t frame, uint64_t row, uint64_t column);
+
+/* In HCLK ticks (§6.3, §6.8). */
+uint64_t clock_ticks(const uint32_t *words);
+
+/* In clocks (§6.1), in lines (§6.2), in clocks and in HCLK ticks (§6.3), in millihertz (§6.4); all of an STN panel by §6.8. */
 uint64_t line_length(const uint32_t *words);
 uint64_t frame_height(const uint32_t *words);
 uint64_t frame_clocks(const uint32_t *words);
@@ -52,7 +64,7 @@ struct clock {
     uint32_t colour;
 };
 
-/* The clock at a position of the frame (§6.5, §6.6), with no colour yet. */
+/* The clock at a position of a TFT panel's frame (§6.5, §6.6), with no colour yet. */
 struct clock clock_at(const uint32_t *words, uint64_t position);
 
 #endif

@@ -80,9 +80,12 @@ void hand_on(struct slice *slice) {
 }
 
 uint64_t entry_of(const struct slice *slice, const void *block, ptrdiff_t i) {
-    if (slice->bytes == 2)
-        return ((const uint16_t *)block)[i];
-    return slice->bytes == 4 ? ((const uint32_t *)block)[i] : ((const uint64_t *)block)[i];
+    switch (slice->bytes) {
+    case 1: return ((const uint8_t *)block)[i];
+    case 2: return ((const uint16_t *)block)[i];
+    case 4: return ((const uint32_t *)block)[i];
+    default: return ((const uint64_t *)block)[i];
+    }
 }
 
 bool blocks_differ(const struct slice *slice, const void *one, const void *other, ptrdiff_t *first) {

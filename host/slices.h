@@ -16,7 +16,7 @@ enum { GUARD = 2 };
 
 enum side { ARCHIVE, MODEL };
 
-/* So many entries of so many bytes (2, 4 or 8). */
+/* So many entries of so many bytes (1, 2, 4 or 8). */
 struct slice {
     size_t len, bytes;
     void *lent[2], *before;

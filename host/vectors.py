@@ -31,31 +31,34 @@ LAYOUT = {
     "LCDSADDR3": "OFFSIZE 21..11, PAGEWIDTH 10..0",
     "TPAL": "TPALEN 24, TPALVAL 23..0",
 }
+# the words that are otherwise on an STN panel (§1.7), where PNRMODE is 2
+STN_LAYOUT = {**LAYOUT, "LCDCON3": "WDLY 20..19, HOZVAL 18..8, LINEBLANK 7..0", "LCDCON4": "MVAL 15..8, WLH 1..0", "TPAL": ""}
 
 
-def spans():
+def spans(layout):
     for number, name in enumerate(NAMES):
-        for part in LAYOUT[name].split(", "):
+        for part in filter(None, layout[name].split(", ")):
             field, _, bits = part.partition(" ")
             high, _, low = bits.partition("..")
-            yield number, field.lstrip("-"), int(high), int(low or high)
+            yield field.lstrip("-"), (number, int(high), int(low or high))
 
 
-SPANS = {field: (number, high, low) for number, field, high, low in spans()}
+SPANS, STN_SPANS = dict(spans(LAYOUT)), dict(spans(STN_LAYOUT))
 
 
 def bits(word):
     return format(word, "032b")
 
 
-def fields(words):
+def fields(words, of=SPANS):
     """Each field by its name."""
-    return {name: int(bits(words[n])[31 - high:32 - low], 2) for name, (n, high, low) in SPANS.items()}
+    return {name: int(bits(words[n])[31 - high:32 - low], 2) for name, (n, high, low) in of.items()}
 
 
 def reserved_bit(words):
+    layout = STN_SPANS if fields(words)["PNRMODE"] == 2 else SPANS
     for n in range(9):
-        used = {b for number, high, low in SPANS.values() if number == n for b in range(low, high + 1)}
+        used = {b for number, high, low in layout.values() if number == n for b in range(low, high + 1)}
         if any(bits(words[n])[31 - b] == "1" for b in range(32) if b not in used):
             return True
     return False
@@ -64,6 +67,8 @@ def reserved_bit(words):
 # ---- what a call is lent, and what it judges (§9)
 
 STORED = {8: 1, 9: 2, 10: 4, 11: 8, 12: 16, 13: 32}  # stored bits by BPPMODE
+STN_STORED = {0: 1, 2: 4}  # where PNRMODE is 2
+EITHER = ("check", "counts", "rate")  # calls that take both kinds of panel; the others take TFT alone
 
 
 class Lent:
@@ -91,13 +96,16 @@ def outside(lent, f):
 
 def swaps_illegal(f):
     byte, half = f["BSWP"] == 1, f["HWSWP"] == 1
+    if f["PNRMODE"] == 2:
+        return half
     return (byte and f["BPPMODE"] not in (8, 9, 10, 11)) or (half and f["BPPMODE"] != 12) or (byte and half)
 
 
 def size(lent):
     """Width, and the pixels of the picture."""
     f = fields(lent.words)
-    return f["HOZVAL"] + 1, (f["HOZVAL"] + 1) * (f["LINEVAL"] + 1)
+    width = (f["HOZVAL"] + 1) * (8 if f["PNRMODE"] == 2 else 1)
+    return width, width * (f["LINEVAL"] + 1)
 
 
 def asked(lent, call, args):
@@ -114,23 +122,25 @@ def asked(lent, call, args):
 def applying(lent, call, *args):
     """All numbers that apply to a call on nine words, ascending. A BPPMODE that is no mode counts as 0 stored bits."""
     f = fields(lent.words)
-    w, h, pitch = f["HOZVAL"] + 1, f["LINEVAL"] + 1, f["PAGEWIDTH"] + f["OFFSIZE"]
+    (w, _), h, pitch = size(lent), f["LINEVAL"] + 1, f["PAGEWIDTH"] + f["OFFSIZE"]
+    stored = STN_STORED if f["PNRMODE"] == 2 else STORED
     needed, has, row, column = asked(lent, call, args)
     conditions = {
         1: reserved_bit(lent.words),
-        2: f["PNRMODE"] != 3,
-        3: f["BPPMODE"] not in STORED,
+        2: f["PNRMODE"] not in ((2, 3) if call in EITHER else (3,)),
+        3: f["BPPMODE"] not in stored,
         4: swaps_illegal(f),
-        5: 16 * f["PAGEWIDTH"] != w * STORED.get(f["BPPMODE"], 0) or any(f[n] % 2 for n in ("LCDBASEU", "PAGEWIDTH", "OFFSIZE")),
+        5: 16 * f["PAGEWIDTH"] != w * stored.get(f["BPPMODE"], 0) or any(f[n] % 2 for n in ("LCDBASEU", "PAGEWIDTH", "OFFSIZE")),
         6: f["LCDBASEL"] != (f["LCDBASEU"] + pitch * h) % 2**21,
         7: f["LCDBASEU"] + (h - 1) * pitch + f["PAGEWIDTH"] > 2**21,
         8: outside(lent, f),
         9: f["ENVID"] == 0,
         10: len(lent.palette) != 256 or has < needed,
         11: row >= h or column >= w,
+        17: f["PNRMODE"] == 2 and f["CLKVAL"] < 2,
     }
     judged = {"stretch": 0, "counts": 7, "rate": 7, "check": 8, "begin": 9, "view": 9, "picture": 10, "step": 10, "run": 10}.get(call, 11)
-    return [n for n, holds in conditions.items() if n <= judged and holds]
+    return [n for n, holds in conditions.items() if (n <= judged or (n == 17 and call in EITHER)) and holds]
 
 
 def refusal(lent, call, *args):
@@ -180,7 +190,12 @@ def colours(lent):
 # ---- what is due of a call: the refusal, or 0 and the values
 
 def frame(lent):
+    """A frame's clocks and ticks (§6.3, of an STN panel §6.8)."""
     f = fields(lent.words)
+    if f["PNRMODE"] == 2:
+        f = fields(lent.words, STN_SPANS)
+        c, l = f["HOZVAL"] + 1, f["LINEVAL"] + 1
+        return l * c, l * (2 * f["CLKVAL"] * c + 2**(4 + f["WLH"]) + 2**(4 + f["WDLY"]) + 8 * f["LINEBLANK"])
     c = (f["HSPW"] + 1) + (f["HBPD"] + 1) + (f["HOZVAL"] + 1) + (f["HFPD"] + 1)
     l = (f["VSPW"] + 1) + (f["VBPD"] + 1) + (f["LINEVAL"] + 1) + (f["VFPD"] + 1)
     return l * c, 2 * (f["CLKVAL"] + 1) * l * c
@@ -236,13 +251,14 @@ def with_view(words, view):
 
 class Scan:
     """A list of calls from one state on. Its clocks are numbered from the state's position on, through all frames; the schedule
-    has each viewport that was accepted with the number of the clock that came next. `waiting` is the pending viewport."""
+    has each viewport that was accepted with the number of the clock that came next. `waiting` is the pending viewport. Every call
+    refuses the state of an STN panel, so its clocks do not matter."""
 
     def __init__(self, words, start, waiting, position):
         self.words, self.start, self.first, self.clock = list(words), start, position, position
         self.schedule = [(position, tuple(waiting))]
         self.frame = clocks_of(words)
-        if len(self.frame) != frame(Lent(words))[0]:
+        if fields(words)["PNRMODE"] != 2 and len(self.frame) != frame(Lent(words))[0]:
             raise SystemExit(f"{words}: a list of {len(self.frame)} clocks")
 
     def view_of(self, frame):
@@ -551,7 +567,7 @@ def screens():
 
 
 def bad_words():
-    """Words that each of 1 to 7 refuses, with an otherwise good panel, 4 by 2 at 8 bits."""
+    """Words that each of 1 to 7 refuses, in TFT calls, with an otherwise good panel, 4 by 2 at 8 bits."""
     good = dict(depth=8, width=4, height=2)
     return {
         1: [a if i else a | 1 << 31 for i, a in enumerate(panel(**good))],
@@ -576,7 +592,8 @@ def refusals():
             words[n] |= 1 << b
             g.case(f"1: {name} bit {b}", lent(words), "check")
     for v in (0, 1, 2):
-        g.case(f"2: PNRMODE {v}", lent(panel(16, 4, 2, PNRMODE=v)), "check")
+        about = f"2: PNRMODE {v}" if v != 2 else "3: PNRMODE 2, STN, has no mode of 16 bits"
+        g.case(about, lent(panel(16, 4, 2, PNRMODE=v)), "check")
     for v in (*range(8), 14, 15):
         g.case(f"3: BPPMODE {v}", lent(panel(16, 4, 2, BPPMODE=v)), "check")
     for depth, flags in ((16, "BSWP"), (32, "BSWP"), (1, "HWSWP"), (2, "HWSWP"), (4, "HWSWP"), (8, "HWSWP"), (32, "HWSWP"),
@@ -624,7 +641,8 @@ def all_calls(g, about, lent, has=None):
 def calls():
     g = Group("calls", "which call judges what: each number 1 to 11 through every call; lengths; rows and columns; stretches, which judge nothing")
     for number, words in bad_words().items():
-        all_calls(g, f"{number} in every call", Lent(words, hclk=48000000, video=noise(64)), has=16)
+        calls_of = "every call that draws colours, 3 in the others: PNRMODE 2, STN, has no mode of 8 bits" if number == 2 else "every call"
+        all_calls(g, f"{number} in {calls_of}", Lent(words, hclk=48000000, video=noise(64)), has=16)
     good = panel(8, 4, 2, FRM565=1)
     all_calls(g, "no refusal", Lent(good, hclk=48000000, video=noise(2)))
     all_calls(g, "8 in the calls that memory is lent to", Lent(good, hclk=48000000, video=noise(1)))
