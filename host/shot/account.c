@@ -17,7 +17,7 @@ void account_counts(const struct readings *r) {
     rate_text(counts[2], frame);
     rate_text(millihertz_of(d->hclk, r->sizes[LCD_SIZE_TICKS]), clock);
     if (d->hclk)
-        say("%s, %s pixel clock\n", frame, clock);
+        say("%s, %s %s\n", frame, clock, is_stn(d->words) ? "clock of 8 pixels" : "pixel clock");
     else
         say("no rate: HCLK is %s\n", d->no_hclk ? "not given" : "0");
 }
@@ -113,23 +113,53 @@ static void say_parts(const char *name, const uint32_t *s, const char *one, cons
         s[all] == 1 ? one : more, s[sync], s[sync + 1], s[active], s[sync + 2]);
 }
 
-/* What the words say together: size, mode, the parts of line and frame, rates. */
-static void say_panel(const struct readings *r) {
-    const uint32_t *s = r->sizes;
-    uint64_t line = (uint64_t)s[LCD_SIZE_TICKS] * s[LCD_SIZE_LINE];
-    char mode[MEANING];
-    mode_meaning(s[LCD_SIZE_STORED_BITS], mode);
-    say("panel       %" PRIu32 " by %" PRIu32 " pixels, %s\n", s[LCD_SIZE_WIDTH], s[LCD_SIZE_HEIGHT], mode);
-    say_parts("line", s, "clock", "clocks", LCD_SIZE_LINE, LCD_SIZE_HSYNC, LCD_SIZE_WIDTH);
-    say_parts("frame", s, "line", "lines", LCD_SIZE_FRAME, LCD_SIZE_VSYNC, LCD_SIZE_HEIGHT);
-    if (!r->dump->hclk) {
+/* An STN line's clocks and pauses, and its frame, in HCLK ticks. */
+static void say_ticks(const struct readings *r) {
+    uint32_t clocks = r->sizes[LCD_SIZE_LINE], lines = r->sizes[LCD_SIZE_FRAME], all = lines * clocks;
+    struct stn_pauses ticks = stn_pauses_of(r);
+    say("line        %" PRIu64 " ticks: %" PRIu32 " clock%s of %" PRIu32, line_ticks(r), clocks, clocks == 1 ? "" : "s",
+        r->sizes[LCD_SIZE_TICKS]);
+    say(", VLINE %" PRIu64 ", delay %" PRIu64 ", blank %" PRIu64 "\n", ticks.vline, ticks.delay, ticks.blank);
+    say("frame       %" PRIu32 " line%s: %" PRIu32 " clock%s, %" PRIu64 " ticks\n", lines, lines == 1 ? "" : "s", all,
+        all == 1 ? "" : "s", lines * line_ticks(r));
+}
+
+/* How long an STN line takes, in time. */
+static void say_line_time(const struct readings *r) {
+    char time[MEANING];
+    time_text(line_ticks(r) * 1000000000 / r->dump->hclk, time);
+    say("line time   %s\n", time);
+}
+
+static void say_rates(const struct readings *r) {
+    uint32_t hclk = r->dump->hclk, ticks = r->sizes[LCD_SIZE_TICKS];
+    if (!hclk) {
         say("HCLK        %s, no rates\n", r->dump->no_hclk ? "not given" : "0 Hz");
         return;
     }
-    say("HCLK        %" PRIu32 " Hz\n", r->dump->hclk);
-    say_rate("VCLK", r->dump->hclk, s[LCD_SIZE_TICKS]);
-    say_rate("line rate", r->dump->hclk, line);
-    say_rate("frame rate", r->dump->hclk, line * s[LCD_SIZE_FRAME]);
+    say("HCLK        %" PRIu32 " Hz\n", hclk);
+    if (ticks)
+        say_rate("VCLK", hclk, ticks);
+    if (is_stn(r->dump->words))
+        say_line_time(r);
+    say_rate("line rate", hclk, line_ticks(r));
+    say_rate("frame rate", hclk, line_ticks(r) * r->sizes[LCD_SIZE_FRAME]);
+}
+
+/* What the words say together: size, mode, the parts of line and frame, rates. */
+static void say_panel(const struct readings *r) {
+    const uint32_t *s = r->sizes;
+    bool stn = is_stn(r->dump->words);
+    char mode[MEANING];
+    mode_meaning(r, mode);
+    say("panel       %" PRIu32 " by %" PRIu32 " pixels, %s%s\n", s[LCD_SIZE_WIDTH], s[LCD_SIZE_HEIGHT], stn ? "STN, " : "", mode);
+    if (stn) {
+        say_ticks(r);
+    } else {
+        say_parts("line", s, "clock", "clocks", LCD_SIZE_LINE, LCD_SIZE_HSYNC, LCD_SIZE_WIDTH);
+        say_parts("frame", s, "line", "lines", LCD_SIZE_FRAME, LCD_SIZE_VSYNC, LCD_SIZE_HEIGHT);
+    }
+    say_rates(r);
 }
 
 void account_needed(const struct dump *d) {
@@ -192,10 +222,10 @@ static void say_field(const struct readings *r, const struct faults *f, const st
 }
 
 static void say_register(const struct readings *r, const struct faults *f, int word) {
-    const struct layout *l = layout_asked();
     const uint32_t *words = r->dump->words;
+    const struct layout *l = layout_of(words);
     char reserved[NUMBERS];
-    say("%s 0x%08" PRIx32, register_names[word], words[word]);
+    say("%s 0x%08" PRIx32 "%s", register_names[word], words[word], l->reserved[word] == UINT32_MAX ? "  all reserved on STN" : "");
     if (reserved_text(words, word, reserved))
         say("  <- refused 1; %s", reserved);
     say("\n");

@@ -15,14 +15,25 @@ static struct difference *add(struct against *a, const char *where, const char *
     return d;
 }
 
+/* What a field means in a dump. Where an STN panel beside a TFT one has another field in its bits, that is named. */
+static void part_meaning(const struct shot *s, const struct part *p, char *to) {
+    const char *name = is_stn(s->dump.words) ? stn_field_name(p->field) : field_name(p->field);
+    char meaning[MEANING];
+    field_meaning(&s->readings, p->field, meaning);
+    if (strcmp(name, p->name))
+        snprintf(to, MEANING, "%s %" PRIu32 ": %.90s", name, s->readings.fields[p->field], meaning);
+    else
+        memcpy(to, meaning, MEANING);
+}
+
 static void add_part(struct against *a, const struct shot *old, const struct shot *now, int word, const struct part *p) {
     struct difference *d = add(a, register_names[word], p->name ? p->name : "reserved bits",
                                part_number(p, old->dump.words[word]), part_number(p, now->dump.words[word]));
     if (!d)
         return;
     if (p->field >= 0) {
-        field_meaning(&old->readings, p->field, d->old_meaning);
-        field_meaning(&now->readings, p->field, d->now_meaning);
+        part_meaning(old, p, d->old_meaning);
+        part_meaning(now, p, d->now_meaning);
     } else if (p->field == READ_ONLY) {
         d->counts = false;
         snprintf(d->now_meaning, MEANING, "read-only, not counted");
@@ -58,8 +69,9 @@ static void add_refusal(struct against *a, const struct shot *old, const struct 
     snprintf(d->now_meaning, MEANING, "%s", now->refusal ? "refused" : "accepted");
 }
 
+/* By the layout that both have, or by TFT's. */
 static void find_fields(struct against *a, const struct shot *old, const struct shot *now) {
-    const struct layout *l = layout_asked();
+    const struct layout *l = layout_of(is_stn(old->dump.words) ? now->dump.words : old->dump.words);
     for (int word = 0; word < LCD_REGISTERS; word++)
         for (int i = 0; i < l->count[word]; i++)
             add_part(a, old, now, word, &l->parts[word][i]);

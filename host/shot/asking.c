@@ -3,11 +3,20 @@
 #include <stdlib.h>
 #include "files.h"
 
+/* A drawing into no bytes is refused by 1 to 9, and else by 10: then 17 is left, which the check gives. */
+static uint32_t judge_stn(const struct dump *d, const uint32_t *words) {
+    uint8_t none;
+    uint32_t refusal = lcd_draw_stn(words, LCD_REGISTERS, d->window_start, d->video, d->video_len, 0, &none, 0);
+    return refusal == 10 ? lcd_check(words, LCD_REGISTERS, d->window_start, d->video, d->video_len) : refusal;
+}
+
 uint32_t judge(const struct dump *d, const uint32_t *words) {
     uint64_t counts[3];
     uint32_t colour;
     if (d->source == WORDS_ALONE)
         return lcd_counts(words, LCD_REGISTERS, 0, counts, 3);
+    if (is_stn(words))
+        return judge_stn(d, words);
     return lcd_draw_pixel(words, LCD_REGISTERS, d->window_start, d->video, d->video_len, d->palette, LCD_PALETTE_ENTRIES, 0, 0,
                           &colour, 1);
 }
@@ -22,8 +31,10 @@ static uint32_t *probe(void) {
     return words;
 }
 
+/* 17 comes behind 8, so the picture lies in the memory there too. */
 static bool lies_in(const uint32_t *words, uint32_t start, size_t length) {
-    return lcd_check(words, LCD_REGISTERS, start, probe(), length) == 0;
+    uint32_t refusal = lcd_check(words, LCD_REGISTERS, start, probe(), length);
+    return refusal == 0 || refusal == 17;
 }
 
 /* How many words of memory from `start` on hold the picture; or by how many words a start is too high that begins at `start`. */

@@ -1,11 +1,26 @@
 /* The picture on the test card. What it is for: a missing last column or row takes a side of the border away; a wrong pitch shears
  * the border and the circles; exchanged pixels move the border's left side inward and fray every slanted line; a wrong colour format
- * shows in the bars, a lost bit in the ramp. Whole numbers only, so that the card is the same everywhere. */
+ * shows in the bars, a lost bit in the ramp; exchanged bits or bytes of a mono STN panel show in stripes and squares of 1 to 8 pixels.
+ * Whole numbers only, so that the card is the same everywhere. */
 #include "card.h"
 #include <stdlib.h>
 #include <string.h>
 
-enum { WHITE = 0xffffff, GREY = 0x808080, SEA = 0x000040, PORT = 0xff0000, STARBOARD = 0x00ff00, WIND = 0xffff00 };
+enum { WHITE = 0xffffff };
+
+/* What the card is drawn with: its ground, the diagram's rings, rays and curves. */
+struct inks {
+    uint32_t sea, rings, wind, port, starboard;
+};
+
+/* In fewer than 4 bits there is no red and no green. On STN level 7 is the half light; mono has black and white alone. */
+static struct inks inks_for(const struct card_mode *mode) {
+    if (mode->stn && mode->bits == 1)
+        return (struct inks){0, WHITE, WHITE, WHITE, WHITE};
+    if (mode->stn)
+        return (struct inks){0, card_grey(7), card_grey(12), card_grey(10), WHITE};
+    return (struct inks){0x000040, 0x808080, 0xffff00, mode->bits < 4 ? WHITE : 0xff0000, mode->bits < 4 ? WHITE : 0x00ff00};
+}
 
 /* The gap between the border and what lies inside, so that the border stands out. */
 enum { GAP = 3 };
@@ -36,20 +51,49 @@ static void border(struct picture *p) {
     line(p, right, 0, right, bottom, WHITE);
 }
 
-/* ---- bars and ramp: the upper quarter */
+/* ---- bars and ramp, or what stands for them: the upper quarter */
 
-static uint32_t bar(uint32_t column, uint32_t width) {
+static uint32_t bar(uint32_t column, uint32_t row, uint32_t width) {
     static const uint32_t colours[8] = {0xffffff, 0xffff00, 0x00ffff, 0x00ff00, 0xff00ff, 0xff0000, 0x0000ff, 0x000000};
+    (void)row;
     return colours[column * 8 / width];
 }
 
-static uint32_t grey(uint32_t column, uint32_t width) { return column * 256 / width * 0x010101; }
+static uint32_t grey(uint32_t column, uint32_t row, uint32_t width) {
+    (void)row;
+    return column * 256 / width * 0x010101;
+}
 
-/* Rows of a pattern that is given by the column, inside the gap. */
-static void band(struct picture *p, uint32_t from, uint32_t to, uint32_t (*colour)(uint32_t column, uint32_t width)) {
+/* The 16 greys of an STN panel. */
+static uint32_t step(uint32_t column, uint32_t row, uint32_t width) {
+    (void)row;
+    return card_grey(column * 16 / width);
+}
+
+/* Four fields of stripes 1, 2, 4 and 8 pixels wide, and of squares as large. */
+static uint32_t stripe(uint32_t column, uint32_t row, uint32_t width) {
+    (void)row;
+    return (column >> column * 4 / width & 1) * WHITE;
+}
+
+static uint32_t square(uint32_t column, uint32_t row, uint32_t width) {
+    return ((column ^ row) >> column * 4 / width & 1) * WHITE;
+}
+
+/* Rows of a pattern, inside the gap. */
+static void band(struct picture *p, uint32_t from, uint32_t to, uint32_t (*colour)(uint32_t column, uint32_t row, uint32_t width)) {
     for (uint32_t row = from; row < to; row++)
         for (uint32_t column = GAP; column + GAP < p->width; column++)
-            dot(p, column, row, colour(column - GAP, p->width - 2 * GAP));
+            dot(p, column, row, colour(column - GAP, row - from, p->width - 2 * GAP));
+}
+
+/* Returns the row behind them. */
+static uint32_t bands(struct picture *p, const struct card_mode *mode) {
+    uint32_t upper_end = p->height / 6, end = p->height / 4;
+    bool mono = mode->bits == 1;
+    band(p, GAP, upper_end, !mode->stn ? bar : mono ? stripe : step);
+    band(p, upper_end, end, !mode->stn ? grey : mono ? square : step);
+    return end;
 }
 
 /* ---- the polar diagram: a boat's speed by the angle to the wind, which blows from above */
@@ -72,12 +116,12 @@ static void place(const struct polar *o, int tens, int side, long out, long *x, 
     *y = o->y - o->radius * out * up / 1000000;
 }
 
-static void ring(struct picture *p, const struct polar *o, long radius) {
+static void ring(struct picture *p, const struct polar *o, long radius, uint32_t colour) {
     for (long y = -radius; y <= radius; y++)
         for (long x = -radius; x <= radius; x++) {
             long square = x * x + y * y;
             if (square <= radius * radius + radius && square > radius * radius - radius)
-                dot(p, o->x + x, o->y + y, GREY);
+                dot(p, o->x + x, o->y + y, colour);
         }
 }
 
@@ -90,19 +134,18 @@ static void curve(struct picture *p, const struct polar *o, int side, uint32_t c
     }
 }
 
-/* In fewer than 4 bits there is no red and no green. */
-static void polar(struct picture *p, uint32_t from, uint32_t bits) {
+static void polar(struct picture *p, uint32_t from, const struct inks *inks) {
     long wide = (long)p->width, high = (long)p->height - from, x, y;
     struct polar o = {wide / 2, from + high / 2, (wide < high ? wide : high) / 2 - GAP - 1};
     for (int k = 1; k <= 4; k++)
-        ring(p, &o, o.radius * k / 4);
+        ring(p, &o, o.radius * k / 4, inks->rings);
     for (int tens = 0; tens <= 18; tens += 3)
         for (int side = -1; side <= 1; side += 2) {
             place(&o, tens, side, 1000, &x, &y);
-            line(p, o.x, o.y, x, y, tens == 0 ? WIND : GREY);
+            line(p, o.x, o.y, x, y, tens == 0 ? inks->wind : inks->rings);
         }
-    curve(p, &o, -1, bits < 4 ? WHITE : PORT);
-    curve(p, &o, 1, bits < 4 ? WHITE : STARBOARD);
+    curve(p, &o, -1, inks->port);
+    curve(p, &o, 1, inks->starboard);
 }
 
 /* ---- the size in figures, as "240x320x16" */
@@ -134,13 +177,13 @@ static void caption(struct picture *p, long y, uint32_t bits) {
     number(p, figure(p, x, y, 10), y, bits);
 }
 
-void card_draw(struct picture *p, uint32_t bits) {
-    uint32_t bars_end = p->height / 6, ramp_end = p->height / 4;
+void card_draw(struct picture *p, const struct card_mode *mode) {
+    struct inks inks = inks_for(mode);
+    uint32_t end;
     for (size_t i = 0; i < (size_t)p->width * p->height; i++)
-        p->colours[i] = SEA;
-    band(p, GAP, bars_end, bar);
-    band(p, bars_end, ramp_end, grey);
-    caption(p, ramp_end + GAP, bits);
-    polar(p, ramp_end, bits);
+        p->colours[i] = inks.sea;
+    end = bands(p, mode);
+    caption(p, end + GAP, mode->bits);
+    polar(p, end, &inks);
     border(p);
 }

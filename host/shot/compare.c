@@ -93,7 +93,8 @@ void compare_neighbours(struct comparison *c, const struct dump *d, const struct
     struct readings r;
     readings_ask(&r, d);
     for (int i = 0; i < 4; i++)
-        try_flag(c, &r, golden, flags[i], &c->neighbours[i]);
+        if (!is_stn(d->words) || flags[i] == LCD_BSWP)
+            try_flag(c, &r, golden, flags[i], &c->neighbours[i]);
     try_row(c, &r, golden, true, &c->neighbours[4]);
     try_row(c, &r, golden, false, &c->neighbours[5]);
 }

@@ -32,7 +32,8 @@ void compare(struct comparison *c, const struct picture *golden, const struct pi
 
 bool comparison_equal(const struct comparison *c);
 
-/* Tries the settings that differ from the dump's in one field: HWSWP, BSWP, BPP24BL, FRM565, and LCDBASEU by a row. */
+/* Tries the settings that differ from the dump's in one field: HWSWP, BSWP, BPP24BL, FRM565, and LCDBASEU by a row. Of the flags an
+ * STN panel has BSWP alone. */
 void compare_neighbours(struct comparison *c, const struct dump *d, const struct picture *golden);
 
 void comparison_say(const struct comparison *c, const struct picture *here);

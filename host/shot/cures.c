@@ -7,14 +7,16 @@
 static const struct {
     int count, fields[5];
 } named[] = {
+    [1] = {1, {LCD_PNRMODE}},
     [2] = {1, {LCD_PNRMODE}},
-    [3] = {1, {LCD_BPPMODE}},
+    [3] = {2, {LCD_BPPMODE, LCD_PNRMODE}},
     [4] = {3, {LCD_BSWP, LCD_HWSWP, LCD_BPPMODE}},
     [5] = {5, {LCD_PAGEWIDTH, LCD_HOZVAL, LCD_BPPMODE, LCD_LCDBASEU, LCD_OFFSIZE}},
     [6] = {5, {LCD_LCDBASEL, LCD_LCDBASEU, LCD_PAGEWIDTH, LCD_OFFSIZE, LCD_LINEVAL}},
     [7] = {4, {LCD_LCDBASEU, LCD_LINEVAL, LCD_PAGEWIDTH, LCD_OFFSIZE}},
     [8] = {1, {LCD_LCDBANK}},
     [9] = {1, {LCD_ENVID}},
+    [17] = {1, {LCD_CLKVAL}},
 };
 
 const struct cure *cure_by(const struct cures *c, int field) {
@@ -33,6 +35,8 @@ bool cure_sets(const struct cure *c, int field) {
 
 /* How far an answer goes: an acceptance furthest. */
 static uint32_t reach(uint32_t then) { return then ? then : UINT32_MAX; }
+
+bool answer_beats(uint32_t then, uint32_t other) { return reach(then) > reach(other); }
 
 /* Sets one field more in a cure. */
 static void add_change(struct cure *c, int field, uint32_t number) {

@@ -27,9 +27,12 @@ struct cures {
     int count;
 };
 
-/* The cures of the refusal from 2 to 9 that the words draw: of each field that its condition names the nearest number that goes
- * furthest; where no field alone will do, several together. */
+/* The cures of the refusal that the words draw: of each field that its condition names the nearest number that goes furthest; where
+ * no field alone will do, several together. 1 has one, by PNRMODE, where the bits are reserved on STN alone. */
 void cures_find(struct cures *c, const struct judging *j, uint32_t refusal);
+
+/* Whether an answer of the library is nearer to an acceptance than another. */
+bool answer_beats(uint32_t then, uint32_t other);
 
 /* The cure with which the next condition is asked for: by fields that no later condition is about, where that will do. Where numbers are
  * odd, a row has no length or the picture leaves its bank, those are moved no further than needed, and LCDBASEL along, so that 6 holds as

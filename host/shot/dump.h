@@ -15,6 +15,8 @@ struct dump {
     size_t video_len;
     enum { FROM_FILE, FROM_WORDS, WORDS_ALONE } source; /* a dump; words with a memory; words without one, so none is judged */
     bool no_palette, no_hclk;                           /* none was given with the words */
+    bool one_frame; /* whether an STN panel is drawn as the bits of `frame`; else as the eye sees it */
+    uint32_t frame;
 };
 
 /* Takes a dump apart. Returns 0, or 14 if it has fewer than 556 bytes or its video memory is no multiple of 4 bytes. */

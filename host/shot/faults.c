@@ -28,12 +28,17 @@ static void make_cure(struct curing *c, const struct cure *cure) {
     readings_ask(&c->words.now, &c->words.dump);
 }
 
+/* Whether reserved bits are cleared for the next fault: unless they are reserved on STN alone, and another panel goes further. */
+static bool clearing(const struct fault *f) {
+    return f->refusal == 1 && !(f->cures.count && answer_beats(f->cures.at[0].then, f->then));
+}
+
 /* Lifts a fault, so that the next can be asked for. Returns false where there is no way. */
 static bool lift(struct curing *c, const struct fault *f) {
     struct dump *d = &c->words.dump;
     struct cure quiet;
     bool moved;
-    if (f->refusal == 1) {
+    if (clearing(f)) {
         words_cleared(d->words, d->words);
         return c->cleared = true;
     }
@@ -52,8 +57,7 @@ static void find_cures(const struct curing *c, struct fault *f) {
     words_cleared(c->words.dump.words, words);
     if (f->refusal == 1)
         f->then = judge(&c->words.dump, words);
-    else
-        cures_find(&f->cures, &c->words, f->refusal);
+    cures_find(&f->cures, &c->words, f->refusal);
     f->hangs = f->refusal >= 6 && f->refusal <= 8 ? c->moved_for : 0;
 }
 

@@ -8,7 +8,8 @@
 const char *const register_names[LCD_REGISTERS] = {"LCDCON1",   "LCDCON2",   "LCDCON3",   "LCDCON4", "LCDCON5",
                                                    "LCDSADDR1", "LCDSADDR2", "LCDSADDR3", "TPAL"};
 
-/* ---- names: a field's number is a size of the panel with its unit, or has a sentence of its own, or a text by `special_meaning` */
+/* ---- names: a field's number is a size of the panel with its unit, or has a sentence of its own, or a text by `special_meaning`; on
+ * STN it may have another, by `stn_meaning` */
 
 struct field_text {
     const char *name;
@@ -58,6 +59,15 @@ static const struct field_text texts[LCD_FIELDS] = {
 
 const char *field_name(int field) { return texts[field].name; }
 
+const char *stn_field_name(int field) {
+    switch (field) {
+    case LCD_WDLY: return "WDLY";
+    case LCD_LINEBLANK: return "LINEBLANK";
+    case LCD_WLH: return "WLH";
+    default: return texts[field].name;
+    }
+}
+
 /* The read-only fields, in the order of the words and from the highest bits down, with their widths: the library tells no more than
  * that reading ignores their bits. */
 static const struct {
@@ -67,13 +77,16 @@ static const struct {
 
 /* ---- the layout */
 
-static int owner_of(int word, int bit) {
-    uint32_t words[LCD_REGISTERS] = {0}, fields[LCD_FIELDS];
-    words[word] = (uint32_t)1 << bit;
-    if (lcd_read_fields(words, LCD_REGISTERS, fields, LCD_FIELDS))
+/* The field that a bit of plain words changes. */
+static int owner_of(const uint32_t *plain, int word, int bit) {
+    uint32_t words[LCD_REGISTERS], before[LCD_FIELDS], after[LCD_FIELDS];
+    memcpy(words, plain, sizeof words);
+    words[word] ^= (uint32_t)1 << bit;
+    lcd_read_fields(plain, LCD_REGISTERS, before, LCD_FIELDS);
+    if (lcd_read_fields(words, LCD_REGISTERS, after, LCD_FIELDS))
         return RESERVED;
     for (int f = 0; f < LCD_FIELDS; f++)
-        if (fields[f])
+        if (before[f] != after[f])
             return f;
     return READ_ONLY;
 }
@@ -100,25 +113,45 @@ static int add_read_only(struct layout *l, int word, int high, int low, int next
     return next;
 }
 
-static int ask_word(struct layout *l, int word, int next_read_only) {
+static int ask_word(struct layout *l, const uint32_t *plain, int word, int next_read_only) {
     for (int high = WORD_BITS - 1, low; high >= 0; high = low - 1) {
-        int owner = owner_of(word, high);
-        for (low = high; low > 0 && owner_of(word, low - 1) == owner; low--)
+        int owner = owner_of(plain, word, high);
+        for (low = high; low > 0 && owner_of(plain, word, low - 1) == owner; low--)
             ;
         if (owner == READ_ONLY)
             next_read_only = add_read_only(l, word, high, low, next_read_only);
         else
-            add_part(l, word, high, low, owner, owner < 0 ? NULL : texts[owner].name);
+            add_part(l, word, high, low, owner, owner < 0 ? NULL : l->stn ? stn_field_name(owner) : field_name(owner));
     }
     return next_read_only;
 }
 
-const struct layout *layout_asked(void) {
-    static struct layout layout;
+/* Asks for the layout of a panel, once. */
+static const struct layout *ask_layout(struct layout *l, bool stn) {
+    uint32_t fields[LCD_FIELDS] = {[LCD_PNRMODE] = stn ? PANEL_STN : PANEL_TFT}, plain[LCD_REGISTERS] = {0};
     int next_read_only = 0;
-    for (int word = 0; word < LCD_REGISTERS && !layout.count[LCD_REGISTERS - 1]; word++)
-        next_read_only = ask_word(&layout, word, next_read_only);
-    return &layout;
+    if (l->count[LCD_REGISTERS - 1])
+        return l;
+    l->stn = stn;
+    lcd_write_fields(fields, LCD_FIELDS, plain, LCD_REGISTERS);
+    for (int word = 0; word < LCD_REGISTERS; word++)
+        next_read_only = ask_word(l, plain, word, next_read_only);
+    return l;
+}
+
+const struct layout *layout_asked(void) {
+    static struct layout tft;
+    return ask_layout(&tft, false);
+}
+
+const struct layout *layout_of(const uint32_t *words) {
+    static struct layout stn;
+    return is_stn(words) ? ask_layout(&stn, true) : layout_asked();
+}
+
+bool is_stn(const uint32_t *words) {
+    const struct layout *l = layout_asked();
+    return (words[l->word[LCD_PNRMODE]] >> l->low[LCD_PNRMODE] & l->most[LCD_PNRMODE]) == PANEL_STN;
 }
 
 uint32_t part_number(const struct part *p, uint32_t word) {
@@ -132,8 +165,9 @@ void put_field(uint32_t *words, int field, uint32_t number) {
 }
 
 void words_cleared(const uint32_t *words, uint32_t *cleared) {
+    const struct layout *l = layout_of(words);
     for (int word = 0; word < LCD_REGISTERS; word++)
-        cleared[word] = words[word] & ~layout_asked()->reserved[word];
+        cleared[word] = words[word] & ~l->reserved[word];
 }
 
 /* ---- numbers and meanings */
@@ -148,31 +182,77 @@ void readings_ask(struct readings *r, const struct dump *d) {
 
 uint64_t millihertz_of(uint32_t hclk, uint64_t ticks) { return (uint64_t)hclk * 1000 / ticks; }
 
-void rate_text(uint64_t millihertz, char *to) {
-    static const struct {
-        uint64_t one; /* in millihertz */
-        const char *unit;
-    } units[] = {{1000000000, "MHz"}, {1000000, "kHz"}, {1000, "Hz"}};
+/* A number of thousandths of the third unit, in the largest of three that it has one of; each is a thousand of the next. */
+static void scaled_text(uint64_t number, const char *const *units, char *to) {
+    uint64_t one = 1000000000;
     int k = 0;
-    while (k < 2 && millihertz < units[k].one)
-        k++;
-    snprintf(to, MEANING, "%" PRIu64 ".%03" PRIu64 " %s", millihertz / units[k].one, millihertz % units[k].one / (units[k].one / 1000),
-             units[k].unit);
+    for (; k < 2 && number < one; k++)
+        one /= 1000;
+    snprintf(to, MEANING, "%" PRIu64 ".%03" PRIu64 " %s", number / one, number % one / (one / 1000), units[k]);
 }
 
-void mode_meaning(uint32_t stored, char *to) {
+void rate_text(uint64_t millihertz, char *to) {
+    static const char *const units[] = {"MHz", "kHz", "Hz"};
+    scaled_text(millihertz, units, to);
+}
+
+void time_text(uint64_t nanoseconds, char *to) {
+    static const char *const units[] = {"s", "ms", "us"};
+    scaled_text(nanoseconds, units, to);
+}
+
+static bool reads_stn(const struct readings *r) { return r->fields[LCD_PNRMODE] == PANEL_STN; }
+
+/* ---- HCLK ticks */
+
+/* The ticks beside the clocks of an STN line with these numbers: the library is asked for a panel of one line and one clock, and
+ * the clock's ticks are taken off. */
+static uint64_t pauses(uint32_t wlh, uint32_t wdly, uint32_t lineblank) {
+    uint32_t fields[LCD_FIELDS] = {[LCD_PNRMODE] = PANEL_STN, [LCD_BPPMODE] = 2, [LCD_CLKVAL] = 2, [LCD_PAGEWIDTH] = 2,
+                                   [LCD_LCDBASEL] = 2, [LCD_WLH] = wlh, [LCD_WDLY] = wdly, [LCD_LINEBLANK] = lineblank};
+    uint32_t words[LCD_REGISTERS] = {0}, sizes[LCD_SIZES] = {0};
+    uint64_t counts[3] = {0};
+    lcd_write_fields(fields, LCD_FIELDS, words, LCD_REGISTERS);
+    lcd_read_sizes(words, LCD_REGISTERS, sizes, LCD_SIZES);
+    lcd_counts(words, LCD_REGISTERS, 0, counts, 3);
+    return counts[1] - sizes[LCD_SIZE_TICKS];
+}
+
+/* WLH and WDLY give the same ticks where they have the same number. */
+struct stn_pauses stn_pauses_of(const struct readings *r) {
+    uint32_t wlh = r->fields[LCD_WLH], wdly = r->fields[LCD_WDLY];
+    return (struct stn_pauses){.vline = pauses(wlh, wlh, 0) / 2,
+                               .delay = pauses(wdly, wdly, 0) / 2,
+                               .blank = pauses(0, 0, r->fields[LCD_LINEBLANK]) - pauses(0, 0, 0)};
+}
+
+uint64_t line_ticks(const struct readings *r) {
+    uint64_t clocks = (uint64_t)r->sizes[LCD_SIZE_TICKS] * r->sizes[LCD_SIZE_LINE];
+    return clocks + (reads_stn(r) ? pauses(r->fields[LCD_WLH], r->fields[LCD_WDLY], r->fields[LCD_LINEBLANK]) : 0);
+}
+
+/* ---- meanings */
+
+void mode_meaning(const struct readings *r, char *to) {
+    uint32_t stored = r->sizes[LCD_SIZE_STORED_BITS];
+    bool stn = reads_stn(r);
     if (!stored)
-        snprintf(to, MEANING, "no TFT mode");
+        snprintf(to, MEANING, "no %s mode", stn ? "STN" : "TFT");
     else if (stored == 32)
         snprintf(to, MEANING, "24 bits a pixel, stored as 32");
     else
         snprintf(to, MEANING, "%" PRIu32 " bit%s a pixel%s", stored, stored == 1 ? "" : "s",
-                 stored < 16 ? ", through the palette" : "");
+                 stored >= 16 ? "" : !stn ? ", through the palette" : stored == 1 ? ", mono" : ", 16 greys");
 }
 
+/* On STN there is no clock where CLKVAL is 0. */
 static void clock_meaning(const struct readings *r, char *to) {
     char rate[MEANING];
     uint32_t ticks = r->sizes[LCD_SIZE_TICKS];
+    if (!ticks) {
+        snprintf(to, MEANING, "no VCLK");
+        return;
+    }
     rate_text(millihertz_of(r->dump->hclk, ticks), rate);
     snprintf(to, MEANING, r->dump->hclk ? "VCLK is HCLK / %" PRIu32 ": %.40s" : "VCLK is HCLK / %" PRIu32, ticks, rate);
 }
@@ -182,7 +262,7 @@ static void special_meaning(const struct readings *r, int field, char *to) {
     uint32_t n = r->fields[field];
     switch (field) {
     case LCD_CLKVAL: clock_meaning(r, to); break;
-    case LCD_BPPMODE: mode_meaning(r->sizes[LCD_SIZE_STORED_BITS], to); break;
+    case LCD_BPPMODE: mode_meaning(r, to); break;
     case LCD_MVAL: snprintf(to, MEANING, "VM's rate (STN only)"); break;
     case LCD_LCDBANK: snprintf(to, MEANING, "A30..22 of the frame buffer: 0x%08" PRIx32, n << 22); break;
     case LCD_LCDBASEU: snprintf(to, MEANING, "A21..1 of the first row: bank + 0x%06" PRIx32, n << 1); break;
@@ -193,8 +273,34 @@ static void special_meaning(const struct readings *r, int field, char *to) {
     }
 }
 
+/* The meaning of the fields that an STN panel has alone, or in another sense, or not at all; false where it is TFT's. */
+static bool stn_meaning(const struct readings *r, int field, char *to) {
+    struct stn_pauses ticks = stn_pauses_of(r);
+    uint32_t n = r->fields[field], clocks = r->sizes[LCD_SIZE_LINE];
+    switch (field) {
+    case LCD_MMODE: snprintf(to, MEANING, "VM toggles %s", n ? "by MVAL" : "each frame"); break;
+    case LCD_MVAL: snprintf(to, MEANING, "VM's rate where MMODE is 1"); break;
+    case LCD_HOZVAL:
+        snprintf(to, MEANING, "%" PRIu32 " pixels a row, the width: %" PRIu32 " clock%s of 8", r->sizes[LCD_SIZE_WIDTH], clocks,
+                 clocks == 1 ? "" : "s");
+        break;
+    case LCD_WLH: snprintf(to, MEANING, "%" PRIu64 " ticks of VLINE", ticks.vline); break;
+    case LCD_WDLY: snprintf(to, MEANING, "%" PRIu64 " ticks from VLINE to VCLK", ticks.delay); break;
+    case LCD_LINEBLANK: snprintf(to, MEANING, "%" PRIu64 " ticks of blank time a line", ticks.blank); break;
+    case LCD_INVVLINE: snprintf(to, MEANING, "VLINE is %d when active", !n); break;
+    case LCD_INVVFRAME: snprintf(to, MEANING, "VFRAME is %d when active", !n); break;
+    case LCD_VBPD: case LCD_VFPD: case LCD_VSPW: case LCD_BPP24BL: case LCD_FRM565: case LCD_INVVDEN: case LCD_INVLEND:
+    case LCD_ENLEND: snprintf(to, MEANING, "TFT only"); break;
+    case LCD_TPALEN: case LCD_TPALVAL: snprintf(to, MEANING, "reserved on STN"); break;
+    default: return false;
+    }
+    return true;
+}
+
 void field_meaning(const struct readings *r, int field, char *to) {
     const struct field_text *t = &texts[field];
+    if (reads_stn(r) && stn_meaning(r, field, to))
+        return;
     if (t->size >= 0)
         snprintf(to, MEANING, "%" PRIu32 " %s", r->sizes[t->size], r->sizes[t->size] == 1 ? t->one : t->more);
     else if (t->number[0])

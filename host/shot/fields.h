@@ -14,6 +14,17 @@ extern const char *const register_names[LCD_REGISTERS];
 
 const char *field_name(int field);
 
+/* ---- the kind of panel */
+
+/* The numbers of PNRMODE that select one: STN, 8-bit single scan, and TFT (docs/REFERENCE.md, §2). */
+enum { PANEL_STN = 2, PANEL_TFT = 3 };
+
+/* Whether words are an STN panel's. These have a layout, sizes and rules of their own (§1.7, §2.3); all others have TFT's. */
+bool is_stn(const uint32_t *words);
+
+/* What an STN panel has in a field's bits: WDLY for HBPD, LINEBLANK for HFPD, WLH for HSPW; of others the same name. */
+const char *stn_field_name(int field);
+
 /* ---- the layout */
 
 enum { RESERVED = -1, READ_ONLY = -2 };
@@ -26,6 +37,7 @@ struct part {
 };
 
 struct layout {
+    bool stn;
     struct part parts[LCD_REGISTERS][WORD_BITS]; /* from bit 31 down */
     int count[LCD_REGISTERS];
     uint32_t reserved[LCD_REGISTERS]; /* the reserved bits of each register */
@@ -33,8 +45,11 @@ struct layout {
     uint32_t most[LCD_FIELDS]; /* a field's register, lowest bit and largest number */
 };
 
-/* The layout as the library tells it: which field a word with one bit set has. */
+/* The layout as the library tells it: which field changes with a bit. It is a TFT panel's, where each field has all its bits. */
 const struct layout *layout_asked(void);
+
+/* The layout of these words: TFT's or STN's. */
+const struct layout *layout_of(const uint32_t *words);
 
 /* The number that a part of a word holds. */
 uint32_t part_number(const struct part *p, uint32_t word);
@@ -61,12 +76,28 @@ enum { MEANING = 120 };
 void field_meaning(const struct readings *r, int field, char *to);
 
 /* "16 bits a pixel" and so on. */
-void mode_meaning(uint32_t stored_bits, char *to);
+void mode_meaning(const struct readings *r, char *to);
 
 /* A rate as "109.553 Hz", with `millihertz` in thousandths of a hertz; "10.000 MHz" where that is shorter. */
 void rate_text(uint64_t millihertz, char *to);
 
+/* A time as "69.520 us", with milliseconds or seconds where it is longer. */
+void time_text(uint64_t nanoseconds, char *to);
+
 /* HCLK over so many ticks, in thousandths of a hertz, rounded down. */
 uint64_t millihertz_of(uint32_t hclk, uint64_t ticks);
+
+/* ---- HCLK ticks */
+
+/* The ticks of an STN line in which no clock runs (§6.8), as the library counts them: VLINE's pulse by WLH, its delay by WDLY, the
+ * blank time by LINEBLANK. */
+struct stn_pauses {
+    uint64_t vline, delay, blank;
+};
+
+struct stn_pauses stn_pauses_of(const struct readings *r);
+
+/* The ticks of a line. */
+uint64_t line_ticks(const struct readings *r);
 
 #endif

@@ -153,14 +153,31 @@ static void put_sizes(const struct readings *r) {
     close("}");
 }
 
-/* In millihertz, rounded down. */
+/* In millihertz, rounded down. On STN there may be no clock. */
 static void put_rates(const struct readings *r) {
     const uint32_t *s = r->sizes;
-    uint64_t line = (uint64_t)s[LCD_SIZE_TICKS] * s[LCD_SIZE_LINE];
     open("millihertz", "{");
-    number("vclk", millihertz_of(r->dump->hclk, s[LCD_SIZE_TICKS]));
-    number("line", millihertz_of(r->dump->hclk, line));
-    number("frame", millihertz_of(r->dump->hclk, line * s[LCD_SIZE_FRAME]));
+    if (s[LCD_SIZE_TICKS])
+        number("vclk", millihertz_of(r->dump->hclk, s[LCD_SIZE_TICKS]));
+    else
+        text("vclk", NULL);
+    number("line", millihertz_of(r->dump->hclk, line_ticks(r)));
+    number("frame", millihertz_of(r->dump->hclk, line_ticks(r) * s[LCD_SIZE_FRAME]));
+    close("}");
+}
+
+/* An STN line in HCLK ticks and in time, which is null without HCLK. */
+static void put_line(const struct readings *r) {
+    struct stn_pauses ticks = stn_pauses_of(r);
+    open("stn_line", "{");
+    number("ticks", line_ticks(r));
+    number("vline", ticks.vline);
+    number("delay", ticks.delay);
+    number("blank", ticks.blank);
+    if (r->dump->hclk)
+        number("nanoseconds", line_ticks(r) * 1000000000 / r->dump->hclk);
+    else
+        text("nanoseconds", NULL);
     close("}");
 }
 
@@ -193,7 +210,7 @@ static void put_part(const struct shot *s, int word, const struct part *p) {
 }
 
 static void put_register(const struct shot *s, int word) {
-    const struct layout *l = layout_asked();
+    const struct layout *l = layout_of(s->dump.words);
     uint32_t value = s->dump.words[word];
     open(NULL, "{");
     text("name", register_names[word]);
@@ -309,8 +326,15 @@ void json_begin(void) {
     open("dumps", "[");
 }
 
+/* The kind of panel; null where PNRMODE selects none. */
+static const char *panel_of(const struct readings *r) {
+    uint32_t pnrmode = r->fields[LCD_PNRMODE];
+    return pnrmode == PANEL_STN ? "STN" : pnrmode == PANEL_TFT ? "TFT" : NULL;
+}
+
 static void put_facts(const struct shot *s) {
     uint32_t stored = s->readings.sizes[LCD_SIZE_STORED_BITS];
+    text("panel", panel_of(&s->readings));
     number("width", s->readings.sizes[LCD_SIZE_WIDTH]);
     number("height", s->readings.sizes[LCD_SIZE_HEIGHT]);
     number("bits", stored == 32 ? 24 : stored);
@@ -320,6 +344,8 @@ static void put_facts(const struct shot *s) {
     text("glass", account_glass(&s->readings));
     put_sizes(&s->readings);
     put_rates(&s->readings);
+    if (is_stn(s->dump.words))
+        put_line(&s->readings);
     put_memory(&s->dump);
     open("registers", "[");
     for (int word = 0; word < LCD_REGISTERS; word++)

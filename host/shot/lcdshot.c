@@ -1,6 +1,7 @@
-/* lcdshot: the picture of a whole panel from a dump or from nine words, an account of its registers, and comparisons with a golden
- * picture or another dump. Dump and line of counts are the bench's (docs/REFERENCE.md, §11). The proved library draws; the tool adds
- * only files and text. Exit status: 0; 1 if a dump is refused or something differs; 2 if it can't do what it is asked. */
+/* lcdshot: the picture of a whole panel from a dump or from nine words, or an STN panel's frames, an account of its registers, and
+ * comparisons with a golden picture or another dump. Dump and line of counts are the bench's (docs/REFERENCE.md, §11), for STN panels
+ * too, which the bench does not take. The proved library draws; the tool adds only files and text. Exit status: 0; 1 if a dump is
+ * refused or something differs; 2 if it can't do what it is asked. */
 #include <inttypes.h>
 #include <signal.h>
 #include <stdio.h>
@@ -8,6 +9,7 @@
 #include <string.h>
 #include "account.h"
 #include "against.h"
+#include "animation.h"
 #include "files.h"
 #include "json.h"
 #include "options.h"
@@ -18,18 +20,32 @@
 
 /* ---- a test card */
 
-static int make_card(const struct options *o) {
-    static const char *const names[3] = {"width", "height", "BPP"};
-    uint32_t numbers[3];
+/* Bits a pixel, or a mode of an STN panel by its name. */
+static struct card_mode card_mode_of(const char *text) {
     char why[CARD_FAULT];
+    if (!strcmp(text, "mono") || !strcmp(text, "grey"))
+        return (struct card_mode){.bits = *text == 'm' ? 1 : 4, .stn = true};
+    snprintf(why, sizeof why, "BPP %.60s is none of " CARD_MODES, *text ? text : "''");
+    if (!*text || text[strspn(text, "0123456789")])
+        misuse("--testcard", why);
+    return (struct card_mode){.bits = decimal_of("--testcard", "BPP", text, UINT32_MAX)};
+}
+
+static int make_card(const struct options *o) {
+    static const char *const names[2] = {"width", "height"};
+    uint32_t numbers[2];
+    struct card_mode mode;
+    char why[CARD_FAULT], how[CARD_FAULT];
     struct dump d;
-    for (int i = 0; i < 3; i++)
+    for (int i = 0; i < 2; i++)
         numbers[i] = decimal_of("--testcard", names[i], o->card[i], UINT32_MAX);
-    if (!testcard_make(&d, numbers[0], numbers[1], numbers[2], why))
+    mode = card_mode_of(o->card[2]);
+    if (!testcard_make(&d, numbers[0], numbers[1], &mode, why))
         misuse("--testcard", why);
     dump_write(&d, o->output);
-    say("%" PRIu32 " by %" PRIu32 " at %" PRIu32 " bit%s, %s%s\n", numbers[0], numbers[1], numbers[2], numbers[2] == 1 ? "" : "s",
-        testcard_shows(numbers[2]), numbers[0] < 64 || numbers[1] < 64 ? ", as far as they fit" : "");
+    testcard_mode_text(&mode, how);
+    say("%" PRIu32 " by %" PRIu32 " %s, %s%s\n", numbers[0], numbers[1], how, testcard_shows(&mode),
+        numbers[0] < 64 || numbers[1] < 64 ? ", as far as they fit" : "");
     dump_free(&d);
     return 0;
 }
@@ -59,9 +75,13 @@ static void take_palette(struct dump *d, const struct options *o) {
     free(b.at);
 }
 
-static void need_palette(const struct shot *s) {
+/* An STN panel has none. */
+static void need_palette(const struct shot *s, const struct options *o) {
     uint32_t stored = s->readings.sizes[LCD_SIZE_STORED_BITS];
-    if (stored >= 1 && stored <= 8 && !s->readings.fields[LCD_TPALEN])
+    bool stn = is_stn(s->dump.words);
+    if (o->palette && stn && stored)
+        misuse("--palette", "for TFT panels only; these words are an STN panel's, which has no palette");
+    if (!o->palette && !stn && stored >= 1 && stored <= 8 && !s->readings.fields[LCD_TPALEN])
         misuse("--palette", "missing; in this mode the colours come from the palette");
 }
 
@@ -81,8 +101,8 @@ static void take_words(struct shot *s, const struct options *o) {
     if (o->palette)
         take_palette(d, o);
     shot_judge(s, o->registers || o->json);
-    if (o->memory && !o->palette)
-        need_palette(s);
+    if (o->memory)
+        need_palette(s, o);
 }
 
 /* ---- a dump */
@@ -122,11 +142,27 @@ static void say_dump(const struct shot *s, const struct options *o) {
         account_needed(&s->dump);
 }
 
+/* ---- frames of an STN panel */
+
+/* Of a TFT panel all frames are alike. */
+static void need_stn(const struct shot *s, const struct options *o) {
+    if ((o->frame || o->animate) && !s->error && s->refusal != 14 && s->readings.fields[LCD_PNRMODE] == PANEL_TFT)
+        misuse(o->animate ? "--animate" : "--frame", "for STN panels only; these words are a TFT panel's (PNRMODE is 3)");
+}
+
+static void say_animation(const struct shot *s, const struct options *o) {
+    struct delay each = animation_delay(&s->dump);
+    say("%" PRIu32 " frame%s from number %" PRIu32 " on, %u/%u s each%s\n", o->frames, o->frames == 1 ? "" : "s", o->first_frame,
+        each.over, each.under, s->dump.hclk ? "" : ", since there is no HCLK");
+}
+
 /* ---- one dump, or words: all is read and judged, then written, then told */
 
 static void write_outputs(const struct shot *s, const struct options *o) {
     if (options_dump_out(o) && s->refusal != 14)
         dump_write(&s->dump, o->output);
+    else if (o->animate && s->picture.colours)
+        animation_write(&s->dump, o->first_frame, o->frames, o->output);
     else if (o->output && s->picture.colours)
         picture_write(&s->picture, o->output);
     if (o->differences && s->compared && s->comparison.same_size && s->comparison.differ) {
@@ -154,6 +190,8 @@ static void take_all(struct shot *s, struct shot *old, const struct options *o) 
         s->golden_error = file_read(o->golden, &golden);
     if (o->against)
         take_old(old, o);
+    s->dump.one_frame = o->frame || o->animate;
+    s->dump.frame = o->first_frame;
     if (o->words[0])
         take_words(s, o);
     else
@@ -178,6 +216,8 @@ static int tell(const struct shot *s, const struct shot *old, const struct optio
         return status;
     }
     say_dump(s, o);
+    if (o->animate && s->picture.colours)
+        say_animation(s, o);
     if (s->compared)
         comparison_say(&s->comparison, &s->picture);
     if (beside)
@@ -190,6 +230,7 @@ static int show(const struct options *o) {
     static struct shot s, old;
     int status;
     take_all(&s, &old, o);
+    need_stn(&s, o);
     if (!o->json && s.error)
         fail(input_name(s.name), s.error);
     if (!o->json && s.golden_error)

@@ -36,15 +36,27 @@ bool bank_bits_left(const uint32_t *words, int word) {
     return word == l->word[LCD_LCDBASEL] && set && (set == bank << low || (at_end && set == (bank + 1) << low));
 }
 
+/* Why bits are reserved where TFT has a field. */
+static const char *stn_text(const uint32_t *words, int word) {
+    const struct layout *tft = layout_asked();
+    if (!(words[word] & layout_of(words)->reserved[word] & ~tft->reserved[word]))
+        return "";
+    if (word == tft->word[LCD_HBPD])
+        return "; of HBPD's bits an STN panel (PNRMODE 2) has WDLY's alone";
+    if (word == tft->word[LCD_HSPW])
+        return "; of HSPW's bits an STN panel (PNRMODE 2) has WLH's alone";
+    return "; an STN panel (PNRMODE 2) has no temporary palette";
+}
+
 bool reserved_text(const uint32_t *words, int word, char *to) {
-    uint32_t set = words[word] & layout_asked()->reserved[word];
+    uint32_t set = words[word] & layout_of(words)->reserved[word];
     *to = 0;
     if (!set)
         return false;
     add_text(to, NUMBERS, "reserved ");
     add_bits(to, set);
-    add_text(to, NUMBERS, " set (0x%08" PRIx32 "); cleared, the word is 0x%08" PRIx32 "%s", set, words[word] & ~set,
-             bank_bits_left(words, word) ? "; it is the bank, as Linux's driver leaves it" : "");
+    add_text(to, NUMBERS, " set (0x%08" PRIx32 "); cleared, the word is 0x%08" PRIx32 "%s%s", set, words[word] & ~set,
+             bank_bits_left(words, word) ? "; it is the bank, as Linux's driver leaves it" : "", stn_text(words, word));
     return true;
 }
 
@@ -120,7 +132,7 @@ void refusal_numbers(const struct judging *j, const struct readings *given, uint
         break;
     }
     case 4:
-        mode_meaning(r->sizes[LCD_SIZE_STORED_BITS], meaning);
+        mode_meaning(r, meaning);
         add_text(to, NUMBERS, "BSWP = %" PRIu32 ", HWSWP = %" PRIu32 " with %s", f[LCD_BSWP], f[LCD_HWSWP], meaning);
         break;
     case 5: row_numbers(r, to); break;
@@ -130,5 +142,6 @@ void refusal_numbers(const struct judging *j, const struct readings *given, uint
         break;
     case 7: bank_numbers(r, to); break;
     case 8: memory_numbers(&j->dump, to); break;
+    case 17: add_text(to, NUMBERS, "CLKVAL = %" PRIu32, f[LCD_CLKVAL]); break;
     }
 }

@@ -8,9 +8,10 @@
 #include <stdint.h>
 #include "asking.h"
 
-enum { NUMBERS = 1024 };
+enum { NUMBERS = 2048 };
 
-/* What a refusal from 1 to 9 is about, in at most NUMBERS characters, of the words as they are judged; for 6 as they were given. */
+/* What a refusal of 1 to 9 or 17 is about, in at most NUMBERS characters, of the words as they are judged; for 6 as they were
+ * given. */
 void refusal_numbers(const struct judging *j, const struct readings *given, uint32_t refusal, char *to);
 
 /* The right side of 6: where the picture of these fields ends, in half-words of the bank. */

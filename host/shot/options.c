@@ -9,6 +9,7 @@
 
 static const char help[] =
     "usage: lcdshot DUMP [-o SCREEN.png] [--registers] [--compare GOLDEN.png [--tolerance N] [--differences DIFF.png]]\n"
+    "       lcdshot DUMP [--frame F] --animate N -o FRAMES.png\n"
     "       lcdshot DUMP --against OLD.dump\n"
     "       lcdshot DUMP DUMP .. [--golden-dir DIR [--tolerance N]]\n"
     "       lcdshot --words LCDCON1 .. LCDCON5 LCDSADDR1 .. LCDSADDR3 TPAL [--hclk HZ] [--registers]\n"
@@ -25,13 +26,16 @@ static const char help[] =
     "  --compare GOLDEN.png  say how many pixels differ from this picture, where and by how much\n"
     "  --tolerance N         pixels differ where red, green or blue is more than N of 255 apart (0)\n"
     "  --differences FILE    where pixels differ, write a picture of them, white on the dimmed screen\n"
+    "  --frame F             of an STN panel draw one frame's bits, lit pixels white, and not the greys that the eye sees\n"
+    "  --animate N           of an STN panel write N frames, 1 to 1000, from frame 0 or F on, as an animated PNG\n"
     "  --against OLD.dump    print the fields, palette entries and memory that differ from another dump\n"
     "  --golden-dir DIR      a line a dump: each is compared with the PNG of its name in DIR\n"
     "  --json                print all this as one JSON document\n"
     "  --words W1 .. W9      judge nine words, in hexadecimal, without a dump; --hclk is in Hz, decimal\n"
     "  --memory RAW          with them: the bytes of the video memory, --start their address in hexadecimal\n"
     "  --palette RAW         256 palette entries, --palette-bytes says of how many bytes each (2)\n"
-    "  --testcard W H BPP    make the dump of a test card for a panel of W by H pixels of 1, 2, 4, 8, 16 or 24 bits\n"
+    "  --testcard W H BPP    make the dump of a test card for a panel of W by H pixels of 1, 2, 4, 8, 16 or 24 bits; or for\n"
+    "                        an STN panel, where BPP is mono or grey, which is 16 greys\n"
     "  -h, --help, --version\n"
     "  --                    what follows are dumps\n"
     "\n"
@@ -70,6 +74,22 @@ uint32_t hexadecimal_of(const char *option, const char *what, const char *text) 
     return strtoul(digits, NULL, 16);
 }
 
+/* A frame's number: decimal, or hexadecimal behind 0x. */
+static uint32_t frame_of(const char *text) {
+    bool hexadecimal = text[0] == '0' && (text[1] == 'x' || text[1] == 'X');
+    return hexadecimal ? hexadecimal_of("--frame", "the number", text) : decimal_of("--frame", "the number", text, UINT32_MAX);
+}
+
+static void take_frames(struct options *o) {
+    enum { MOST_FRAMES = 1000 };
+    o->first_frame = o->frame ? frame_of(o->frame) : 0;
+    o->frames = o->animate ? decimal_of("--animate", "the number of frames", o->animate, MOST_FRAMES) : 1;
+    if (!o->frames)
+        wrong_number("--animate", "the number of frames", o->animate, "below 1");
+    if (o->frames - 1 > UINT32_MAX - o->first_frame)
+        misuse("--animate", "there is no frame above 4294967295");
+}
+
 /* ---- reading */
 
 struct option {
@@ -79,7 +99,7 @@ struct option {
     const char **to;
 };
 
-enum { OPTIONS = 15 };
+enum { OPTIONS = 17 };
 
 static const char *const a_file[] = {"a file"}, *const a_folder[] = {"a folder"}, *const a_number[] = {"a number"},
                   *const an_address[] = {"an address"}, *const card_names[] = {"WIDTH", "HEIGHT", "BPP"};
@@ -91,6 +111,8 @@ static void list_options(struct options *o, struct option *all) {
         {"--compare", 1, a_file, &o->golden},
         {"--tolerance", 1, a_number, &o->tolerance},
         {"--differences", 1, a_file, &o->differences},
+        {"--frame", 1, a_number, &o->frame},
+        {"--animate", 1, a_number, &o->animate},
         {"--against", 1, a_file, &o->against},
         {"--golden-dir", 1, a_folder, &o->golden_dir},
         {"--json", 0, NULL, &o->json},
@@ -144,7 +166,7 @@ static void read_all(struct options *o, int argc, char **argv) {
         else if (!ended && (!strcmp(argv[i], "--help") || !strcmp(argv[i], "-h")))
             tell(help);
         else if (!ended && !strcmp(argv[i], "--version"))
-            tell("lcdshot 2.0, with lcd.h " LCD_VERSION "\n");
+            tell("lcdshot 2.1, with lcd.h " LCD_VERSION "\n");
         else if (!ended && !strcmp(argv[i], "--"))
             ended = true;
         else if (!ended && argv[i][0] == '-' && argv[i][1])
@@ -187,11 +209,23 @@ static void check_together(const struct options *o) {
         misuse(o->output ? "-o" : "--compare", "words alone make no picture; --memory and --start are missing");
 }
 
+/* Frames are pictures. */
+static void check_frames(const struct options *o) {
+    const char *option = o->animate ? "--animate" : "--frame";
+    needs("--animate", o->animate, o->output, "-o and a file are missing");
+    needs("--frame", o->frame, o->output ? o->output : o->golden, "-o or --compare is missing");
+    if (o->animate && o->golden)
+        misuse("--animate", "not with --compare, which takes one picture");
+    if ((o->frame || o->animate) && options_dump_out(o))
+        misuse(option, "makes a picture; -o names a dump");
+}
+
 static void check_one(const struct options *o) {
     const char *alone = o->output ? "-o" : o->golden ? "--compare" : o->against ? "--against" : NULL;
     if (o->registers && !o->json)
         alone = "--registers";
-    if (o->card[0] && (o->dump_count || o->words[0] || o->golden || o->against || o->golden_dir || o->registers || o->json))
+    if (o->card[0] && (o->dump_count || o->words[0] || o->golden || o->against || o->golden_dir || o->registers || o->json ||
+                       o->frame || o->animate))
         misuse("--testcard", "takes -o alone");
     needs("--testcard", o->card[0], o->output, "-o and a file are missing");
     if (o->card[0] && ends_in(o->output, ".png"))
@@ -221,6 +255,8 @@ struct options options_read(int argc, char **argv) {
     read_all(&o, argc, argv);
     check_one(&o);
     check_together(&o);
+    check_frames(&o);
     check_standard_input(&o);
+    take_frames(&o);
     return o;
 }

@@ -39,17 +39,24 @@ static void print_name(FILE *to, const char *name, int width) {
     fprintf(to, "%*s", width > 0 ? width : 0, "");
 }
 
-static void say_facts(const struct shot *s) {
+/* Bits a pixel, or what an STN panel makes of them. */
+static void say_mode(const struct shot *s) {
     uint32_t stored = s->readings.sizes[LCD_SIZE_STORED_BITS], bits = stored == 32 ? 24 : stored;
+    if (!stored)
+        say("no mode");
+    else if (is_stn(s->dump.words))
+        say("%-7s", stored == 1 ? "mono" : "greys");
+    else
+        say("%2" PRIu32 " %-4s", bits, bits == 1 ? "bit" : "bits");
+}
+
+static void say_facts(const struct shot *s) {
     uint64_t counts[3];
     char rate[MEANING] = "no rate";
     if (s->dump.hclk && !lcd_counts(s->dump.words, LCD_REGISTERS, s->dump.hclk, counts, 3))
         rate_text(counts[2], rate);
     say("  %4" PRIu32 " by %-4" PRIu32 "  ", s->readings.sizes[LCD_SIZE_WIDTH], s->readings.sizes[LCD_SIZE_HEIGHT]);
-    if (stored)
-        say("%2" PRIu32 " %-4s", bits, bits == 1 ? "bit" : "bits");
-    else
-        say("no mode");
+    say_mode(s);
     say("  %12s", rate);
 }
 

@@ -14,7 +14,7 @@ struct shot {
     const char *name;
     const char *error;   /* why the dump can't be read; nothing else is set then but the name */
     size_t bytes;        /* of the dump's file */
-    uint32_t refusal;    /* 0, 1 to 9, or 14, and then the rest is not set */
+    uint32_t refusal;    /* 0, 1 to 9, 17, or 14, and then the rest is not set */
     struct dump dump;
     struct readings readings;
     struct faults faults;

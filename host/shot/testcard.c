@@ -1,6 +1,6 @@
 /* The test card's dump: registers with porches for the size, a palette for the mode, and the card's picture in video memory as
  * software on the chip stores it, first pixel at the lowest address. A word's first pixel is in its highest bits (docs/REFERENCE.md,
- * §4.1), so 16 bits need HWSWP and fewer need BSWP. */
+ * §4.1), so 16 bits need HWSWP and fewer need BSWP. An STN panel has neither porches nor a palette. */
 #include "testcard.h"
 #include <inttypes.h>
 #include <stdio.h>
@@ -52,13 +52,28 @@ static void set_timing(uint32_t *fields, const struct timing *t) {
     fields[LCD_VSPW] = t->vsync - 1, fields[LCD_VBPD] = t->vback - 1, fields[LCD_VFPD] = t->vfront - 1;
 }
 
-static void set_fields(uint32_t *fields, uint32_t width, uint32_t height, uint32_t bits) {
+static void set_tft(uint32_t *fields, uint32_t width, uint32_t height, uint32_t bits) {
     struct timing t = timing_for(width, height);
-    uint32_t stored = bits == 24 ? 32 : bits;
-    memset(fields, 0, sizeof *fields * LCD_FIELDS);
     set_timing(fields, &t);
-    fields[LCD_PNRMODE] = 3, fields[LCD_BPPMODE] = 8 + mode_of(bits), fields[LCD_ENVID] = 1;
-    fields[LCD_FRM565] = fields[LCD_INVVLINE] = fields[LCD_INVVFRAME] = fields[LCD_PWREN] = 1;
+    fields[LCD_PNRMODE] = PANEL_TFT, fields[LCD_BPPMODE] = 8 + mode_of(bits);
+    fields[LCD_FRM565] = fields[LCD_INVVLINE] = fields[LCD_INVVFRAME] = 1;
+}
+
+/* Eight pixels a clock; usual pulses and, as blank time, what the chip's manual takes for its example. */
+static void set_stn(uint32_t *fields, uint32_t width, uint32_t height, uint32_t bits) {
+    fields[LCD_PNRMODE] = PANEL_STN, fields[LCD_BPPMODE] = bits == 1 ? 0 : 2;
+    fields[LCD_HOZVAL] = width / 8 - 1, fields[LCD_LINEVAL] = height - 1;
+    fields[LCD_WLH] = fields[LCD_WDLY] = 3, fields[LCD_LINEBLANK] = 10;
+}
+
+static void set_fields(uint32_t *fields, uint32_t width, uint32_t height, const struct card_mode *mode) {
+    uint32_t bits = mode->bits, stored = bits == 24 ? 32 : bits;
+    memset(fields, 0, sizeof *fields * LCD_FIELDS);
+    if (mode->stn)
+        set_stn(fields, width, height, bits);
+    else
+        set_tft(fields, width, height, bits);
+    fields[LCD_ENVID] = fields[LCD_PWREN] = 1;
     fields[LCD_HWSWP] = bits == 16, fields[LCD_BSWP] = bits < 16;
     fields[LCD_LCDBANK] = BANK;
     fields[LCD_PAGEWIDTH] = (uint64_t)width * stored / 16;
@@ -67,12 +82,14 @@ static void set_fields(uint32_t *fields, uint32_t width, uint32_t height, uint32
 
 static uint64_t apart(uint64_t a, uint64_t b) { return a < b ? b - a : a - b; }
 
-/* CLKVAL for the rate nearest to 60 Hz; the TD035STED4 has 4, as in T8. Returns the number of the refusal of the words. */
+/* CLKVAL for the rate nearest to 60 Hz, on STN from 2 on; the TD035STED4 has 4, as in T8. Returns the number of the refusal of the
+ * words. */
 static uint32_t set_clock(uint32_t *fields, uint32_t *words) {
     uint64_t counts[3], best = UINT64_MAX;
     uint32_t chosen = 4, refusal;
-    bool known = fields[LCD_HOZVAL] == panels[0].width - 1 && fields[LCD_LINEVAL] == panels[0].height - 1;
-    for (uint32_t clkval = 0; clkval < 1024 && !known; clkval++) {
+    bool stn = fields[LCD_PNRMODE] == PANEL_STN;
+    bool known = !stn && fields[LCD_HOZVAL] == panels[0].width - 1 && fields[LCD_LINEVAL] == panels[0].height - 1;
+    for (uint32_t clkval = stn ? 2 : 0; clkval < 1024 && !known; clkval++) {
         fields[LCD_CLKVAL] = clkval;
         if ((refusal = lcd_write_fields(fields, LCD_FIELDS, words, LCD_REGISTERS)) ||
             (refusal = lcd_counts(words, LCD_REGISTERS, HCLK, counts, 3)))
@@ -103,10 +120,10 @@ static uint32_t palette_colour(uint32_t bits, uint32_t i) {
 
 static uint16_t as_565(uint32_t colour) { return (colour >> 8 & 0xf800) | (colour >> 5 & 0x7e0) | (colour >> 3 & 0x1f); }
 
-static void set_palette(struct dump *d, uint32_t bits) {
+static void set_palette(struct dump *d, const struct card_mode *mode) {
     memset(d->palette, 0, sizeof d->palette);
-    for (uint32_t i = 0; bits <= 8 && i < 1u << bits; i++)
-        d->palette[i] = as_565(palette_colour(bits, i));
+    for (uint32_t i = 0; !mode->stn && mode->bits <= 8 && i < 1u << mode->bits; i++)
+        d->palette[i] = as_565(palette_colour(mode->bits, i));
 }
 
 static uint32_t distance(uint32_t a, uint32_t b) {
@@ -129,8 +146,11 @@ static uint32_t nearest(uint32_t bits, uint32_t colour) {
     return best;
 }
 
-/* What is stored for a colour: the colour itself, its 16 bits, or its entry. */
-static uint32_t number_for(uint32_t bits, uint32_t colour) {
+/* What is stored for a colour: the colour itself, its 16 bits, or its entry; on STN its level. */
+static uint32_t number_for(const struct card_mode *mode, uint32_t colour) {
+    uint32_t bits = mode->bits;
+    if (mode->stn)
+        return colour & ((1u << bits) - 1);
     return bits == 24 ? colour : bits == 16 ? as_565(colour) : nearest(bits, colour);
 }
 
@@ -148,15 +168,15 @@ static void put_pixel(struct dump *d, size_t i, uint32_t bits, uint32_t number) 
 }
 
 /* A number is looked up where the colour changes, which is seldom. */
-static void fill_video(struct dump *d, uint32_t width, uint32_t height, uint32_t bits) {
+static void fill_video(struct dump *d, uint32_t width, uint32_t height, const struct card_mode *mode) {
     struct picture card = picture_new(width, height);
     uint32_t number = 0;
-    card_draw(&card, bits);
+    card_draw(&card, mode);
     memset(d->video, 0, sizeof *d->video * d->video_len);
     for (size_t i = 0; i < (size_t)width * height; i++) {
         if (i == 0 || card.colours[i] != card.colours[i - 1])
-            number = number_for(bits, card.colours[i]);
-        put_pixel(d, i, bits, number);
+            number = number_for(mode, card.colours[i]);
+        put_pixel(d, i, mode->bits, number);
     }
     picture_free(&card);
 }
@@ -171,13 +191,14 @@ static bool outside(const char *what, uint32_t n, uint32_t most, char *why) {
 }
 
 /* Sizes and mode that no fields can be made for. */
-static bool no_fields(uint32_t width, uint32_t height, uint32_t bits, char *why) {
+static bool no_fields(uint32_t width, uint32_t height, const struct card_mode *mode, char *why) {
     const struct layout *l = layout_asked();
-    uint32_t page = (uint64_t)width * (bits == 24 ? 32 : bits) / 16;
-    if (outside("width", width, l->most[LCD_HOZVAL] + 1, why) || outside("height", height, l->most[LCD_LINEVAL] + 1, why))
+    uint32_t bits = mode->bits, page = (uint64_t)width * (bits == 24 ? 32 : bits) / 16;
+    if (outside("width", width, (l->most[LCD_HOZVAL] + 1) * (mode->stn ? 8 : 1), why) ||
+        outside("height", height, l->most[LCD_LINEVAL] + 1, why))
         return true;
     if (mode_of(bits) == 6)
-        snprintf(why, CARD_FAULT, "BPP %" PRIu32 " is none of 1, 2, 4, 8, 16 and 24", bits);
+        snprintf(why, CARD_FAULT, "BPP %" PRIu32 " is none of " CARD_MODES, bits);
     else if (page > l->most[LCD_PAGEWIDTH])
         snprintf(why, CARD_FAULT, "width %" PRIu32 " at %" PRIu32 " bits needs PAGEWIDTH %" PRIu32 ", above %" PRIu32, width, bits, page,
                  l->most[LCD_PAGEWIDTH]);
@@ -195,8 +216,19 @@ static void explain(uint32_t refusal, uint32_t width, uint32_t bits, char *why) 
         snprintf(why, CARD_FAULT, "refused %" PRIu32 ", %.90s", refusal, lcd_refusal_text(refusal));
 }
 
-const char *testcard_shows(uint32_t bits) {
-    switch (bits) {
+void testcard_mode_text(const struct card_mode *mode, char *to) {
+    if (mode->stn)
+        snprintf(to, CARD_FAULT, "on STN in %s", mode->bits == 1 ? "mono" : "16 greys");
+    else
+        snprintf(to, CARD_FAULT, "at %" PRIu32 " bit%s", mode->bits, mode->bits == 1 ? "" : "s");
+}
+
+const char *testcard_shows(const struct card_mode *mode) {
+    if (mode->stn && mode->bits == 1)
+        return "in white on black: a border, stripes and squares 1 to 8 pixels wide, the size in figures, the polar diagram";
+    if (mode->stn)
+        return "a border, a ramp of 16 greys, the size in figures, the polar diagram";
+    switch (mode->bits) {
     case 1: return "in white on black: a border, the eight bars (the light colours white), a ramp of two steps, the size, the diagram";
     case 2: return "in four greys: a border, the eight bars, a ramp of four steps, the size in figures, the polar diagram";
     case 4: return "a border, eight colour bars, a ramp of eight greys, the size in figures, the polar diagram in red and green";
@@ -204,21 +236,28 @@ const char *testcard_shows(uint32_t bits) {
     }
 }
 
-bool testcard_make(struct dump *d, uint32_t width, uint32_t height, uint32_t bits, char *why) {
-    uint32_t fields[LCD_FIELDS], refusal;
-    *d = (struct dump){.hclk = HCLK, .window_start = START};
-    if (no_fields(width, height, bits, why))
-        return false;
-    set_fields(fields, width, height, bits);
-    refusal = set_clock(fields, d->words);
-    if (!refusal) {
-        d->video_len = (size_t)fields[LCD_PAGEWIDTH] / 2 * height;
-        d->video = grow(NULL, sizeof *d->video * d->video_len);
-        set_palette(d, bits);
-        fill_video(d, width, height, bits);
-        refusal = lcd_check(d->words, LCD_REGISTERS, START, d->video, d->video_len);
-    }
+/* What the library says of the card that is made; 5 where an STN row, of eight pixels a clock, would not have the width. */
+static uint32_t make(struct dump *d, uint32_t width, uint32_t height, const struct card_mode *mode) {
+    uint32_t fields[LCD_FIELDS], refusal = mode->stn && width % 8 ? 5 : 0;
+    set_fields(fields, width, height, mode);
+    if (!refusal)
+        refusal = set_clock(fields, d->words);
     if (refusal)
-        explain(refusal, width, bits, why);
+        return refusal;
+    d->video_len = (size_t)fields[LCD_PAGEWIDTH] / 2 * height;
+    d->video = grow(NULL, sizeof *d->video * d->video_len);
+    set_palette(d, mode);
+    fill_video(d, width, height, mode);
+    return lcd_check(d->words, LCD_REGISTERS, START, d->video, d->video_len);
+}
+
+bool testcard_make(struct dump *d, uint32_t width, uint32_t height, const struct card_mode *mode, char *why) {
+    uint32_t refusal;
+    *d = (struct dump){.hclk = HCLK, .window_start = START};
+    if (no_fields(width, height, mode, why))
+        return false;
+    refusal = make(d, width, height, mode);
+    if (refusal)
+        explain(refusal, width, mode->bits, why);
     return !refusal;
 }

@@ -4,15 +4,22 @@
 
 #include <stdbool.h>
 #include <stdint.h>
+#include "card.h"
 #include "dump.h"
 
 enum { CARD_FAULT = 120 };
 
-/* Makes the card of a width, a height and a number of bits a pixel. Returns false where there is none: `why` then names what is
- * outside its limit. */
-bool testcard_make(struct dump *d, uint32_t width, uint32_t height, uint32_t bits, char *why);
+/* The modes that there are cards for. */
+#define CARD_MODES "1, 2, 4, 8, 16, 24, mono and grey"
 
-/* What is on the card, as far as so many bits a pixel show it. */
-const char *testcard_shows(uint32_t bits);
+
+/* Makes the card of a width, a height and a mode. Returns false where there is none: `why` then names what is outside its limit. */
+bool testcard_make(struct dump *d, uint32_t width, uint32_t height, const struct card_mode *mode, char *why);
+
+/* The mode as "at 16 bits", in at most CARD_FAULT characters. */
+void testcard_mode_text(const struct card_mode *mode, char *to);
+
+/* What is on the card, as far as the mode shows it. */
+const char *testcard_shows(const struct card_mode *mode);
 
 #endif

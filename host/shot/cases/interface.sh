@@ -14,7 +14,7 @@ int main(void) {
 }
 END
 due="0 no refusal
-2 PNRMODE is not 3, TFT
+2 PNRMODE selects no panel that the call takes: 3 is TFT, 2 is STN, 8-bit single scan
 15 the position is not below the frame's clocks
 16 no such refusal
 9 256 $(sed -n 's/#define LCD_VERSION "\(.*\)"/\1 \1/p' "$top/host/lcd.h")"
@@ -28,9 +28,9 @@ line=${line/target/-x none target}
 same "$(./refuse++)" "$due" 'a C++ program over the library'
 
 # The tool's text of a refusal is the table's.
-patch "$t1" 0 0x5b > stn.dump
-gives 1 'refused 2' stn.dump
-same "$(sed -n 2p out)" 'PNRMODE is not 3, TFT' 'the text of a refusal'
+patch "$t1" 0 0x1b > no-panel.dump
+gives 1 'refused 2' no-panel.dump
+same "$(sed -n 2p out)" 'PNRMODE selects no panel that the call takes: 3 is TFT, 2 is STN, 8-bit single scan' 'the text of a refusal'
 # The README's lines of C compile, in a function that has what they take for granted.
 {
     printf '%s\n' '#include <stdio.h>' '#include "lcd.h"' \

@@ -11,7 +11,9 @@ refused() { # number, offset, byte, marks due
 refused 1 3 0xf0 'LCDCON1 0xf000007b <- refused 1; reserved bits 31..28 are set (0xf0000000); cleared, the word is 0x0000007b'
 says 'lifted by clearing them, then accepted' 'what follows where reserved bits are cleared'
 refused 1 11 0x08 'LCDCON3 0x08000000 <- refused 1; reserved bit 27 is set (0x08000000); cleared, the word is 0x00000000'
-refused 2 0 0x5b 'PNRMODE 6..5 2 STN, 8-bit single scan <- refused 2; lifted by 3, then accepted'
+refused 2 0 0x3b 'PNRMODE 6..5 1 STN, 4-bit single scan <- refused 2; lifted by 3, then accepted'
+refused 3 0 0x5b "PNRMODE 6..5 2 STN, 8-bit single scan <- refused 3; lifted by 3, then accepted
+BPPMODE 4..1 13 no STN mode <- refused 3; lifted by 2, then refused 17"
 refused 3 0 0x7f 'BPPMODE 4..1 15 no TFT mode <- refused 3; lifted by 13, then accepted'
 refused 4 16 0x02 "BPPMODE 4..1 13 24 bits a pixel, stored as 32 <- refused 4; lifted by 11, then refused 5
 BSWP 1 1 the four bytes of a word reversed <- refused 4; lifted by 0, then accepted"
@@ -61,7 +63,7 @@ same "$(grep -c 'lifted by BPPMODE 12, then accepted' out) $(grep -c 'lifted by 
 # with video off besides, the same number goes furthest
 td_with 46e 14fc041 98ef09 9 b09 18000000 12c00 f0 0 > mode.dump
 run mode.dump --registers
-same "$(grep 'refused [0-9]  \|lifted by [A-Z]' out | sed 's/^ *//; s/  */ /g')" "refused 3 BPPMODE is outside 8..13
+same "$(grep 'refused [0-9]  \|lifted by [A-Z]' out | sed 's/^ *//; s/  */ /g')" "refused 3 BPPMODE is no mode of the panel: 8..13 on TFT, 0 and 2 on STN
 lifted by BPPMODE 12, then refused 9
 refused 9 video is off: ENVID is 0
 lifted by ENVID 1, then accepted" 'what follows each cure'

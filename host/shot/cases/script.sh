@@ -46,9 +46,9 @@ screen.png
 t1.dump" 'the script by its name alone'
 
 # what changed is built, and a file more or less is noticed
-sed -i 's/lcdshot 2\.0/lcdshot 2.0-changed/' tree/host/shot/options.c
+sed -i 's/lcdshot 2\.1/lcdshot 2.1-changed/' tree/host/shot/options.c
 GNUMAKEFLAGS=-n MAKEFLAGS=-n by_script without-rt --version
-same "$status $(cut -d, -f1 out)" '0 lcdshot 2.0-changed' 'a changed source, whatever the caller asks of make'
+same "$status $(cut -d, -f1 out)" '0 lcdshot 2.1-changed' 'a changed source, whatever the caller asks of make'
 echo 'int more;' > tree/host/shot/more.c
 by_script without-rt --version
 same "$status $([ -e tree/target/host/shot/more.o ] && echo built)" '0 built' 'a new source'
@@ -84,7 +84,7 @@ while IFS= read -r line; do
     eval "$line" > out 2> err || status=$?
     same "$status $(wc -c < err)" "$([[ $line = *--against* ]] && echo 1 || echo 0) 0" "$line"
 done < <(sed -n 's/^ \{4,\}\(host\/lcdshot .*\)/\1/p; s/^ \{4,\}\(p="--palette.*\)/\1/p' README.md docs/DUMPS.md)
-same "$commands $(ls screen.png board.dump card.dump)" "16 board.dump
+same "$commands $(ls screen.png board.dump card.dump)" "20 board.dump
 card.dump
 screen.png" 'all commands were found'
 # in docs/REFERENCE.md the line below a command is the first that it prints
@@ -93,5 +93,5 @@ while IFS= read -r line && IFS= read -r due; do
     commands=$((commands + 1))
     same "$(eval "$line" | head -n 1)" "$due" "$line"
 done < <(sed -n '/^    host\/lcdshot /{N; s/^    \(.*\)\n    /\1\n/p}' docs/REFERENCE.md)
-same "$commands" 3 'all commands of the reference were found'
+same "$commands" 4 'all commands of the reference were found'
 cd ..

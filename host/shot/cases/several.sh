@@ -3,22 +3,22 @@
 mkdir goldens
 cp "$examples"/*.png goldens
 patch "$td.dump" 16 ^1 > swap.dump
-patch "$t1" 0 0x5b > stn.dump
+patch "$t1" 0 0x1b > no-panel.dump
 head -c 5 "$t1" > short.dump
 cp "$td.dump" td035sted4-16.dump
 
 # ---- a line each, and the worst exit status
 
 run "$examples"/*.dump
-same "$status $(wc -l < out)" '0 6' 'a line each'
+same "$status $(wc -l < out)" '0 8' 'a line each'
 says "$examples/at070tn83-4.dump 800 by 480 4 bits 51.313 Hz accepted" 'name, size, mode, rate'
 run "$examples"/*.dump --golden-dir goldens
-same "$status $(grep -c 'accepted  equal$' out)" '0 6' 'all are their golden pictures'
+same "$status $(grep -c 'accepted  equal$' out)" '0 8' 'all are their golden pictures'
 run td035sted4-16.dump --golden-dir goldens
 same "$status: $(cat out)" '0: td035sted4-16.dump   240 by 320   16 bits    109.553 Hz  accepted  equal' 'one dump and a folder of golden pictures'
-run td035sted4-16.dump stn.dump short.dump
+run td035sted4-16.dump no-panel.dump short.dump
 same "$status: $(sed 's/  */ /g' out)" "1: td035sted4-16.dump 240 by 320 16 bits 109.553 Hz accepted
-stn.dump 1 by 2 24 bits no rate refused 2
+no-panel.dump 1 by 2 24 bits no rate refused 2
 short.dump refused 14" 'refused ones'
 cp swap.dump lq64d343-2.dump && cp swap.dump goldens/swap.dump && cp "$td.png" goldens/swap.png
 run swap.dump lq64d343-2.dump td035sted4-16.dump --golden-dir goldens
@@ -51,8 +51,8 @@ run $'two\nlines.dump' short.dump
 same "$(wc -l < out)" 2 'a name with a line feed stays on its line'
 
 # a line that says how far it is, on a terminal alone
-script -qec "'$shot' td035sted4-16.dump stn.dump" /dev/null < /dev/null > typed 2>&1 || true
-same "$(grep -c '1 of 2: td035sted4-16.dump' typed) $(grep -c '2 of 2: stn.dump' typed)" '1 1' 'a progress line on a terminal'
+script -qec "'$shot' td035sted4-16.dump no-panel.dump" /dev/null < /dev/null > typed 2>&1 || true
+same "$(grep -c '1 of 2: td035sted4-16.dump' typed) $(grep -c '2 of 2: no-panel.dump' typed)" '1 1' 'a progress line on a terminal'
 
 # ---- JSON
 
@@ -64,7 +64,7 @@ same "$(json '[.dumps[0].registers[].name]')" \
     '["LCDCON1","LCDCON2","LCDCON3","LCDCON4","LCDCON5","LCDSADDR1","LCDSADDR2","LCDSADDR3","TPAL"]' 'its registers'
 same "$(jq -r '.dumps[0].registers[].fields[] | "  \(.name) \(.high)\(if .high == .low then "" else "..\(.low)" end) \(.number)  \(.meaning)"' out |
     sed 's/  */ /g')" "$("$shot" "$td.dump" --registers | sed -n 's/^  \([A-Z]\)/ \1/p' | sed 's/  */ /g')" 'the account as JSON'
-run stn.dump --json
+run no-panel.dump --json
 same "$status $(json '[.status, .dumps[0].refusal, .dumps[0].counts, .dumps[0].faults[0].lifted_by]')" \
     '1 [1,2,null,[{"set":{"PNRMODE":3},"then":0}]]' 'a refusal'
 patch "$td.dump" 27 0x18 > a && patch a 0 0x78 > linux.dump
