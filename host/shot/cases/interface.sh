@@ -35,13 +35,13 @@ same "$(sed -n 2p out)" 'PNRMODE selects no panel that the call takes: 3 is TFT,
 {
     printf '%s\n' '#include <stdio.h>' '#include "lcd.h"' \
         'void lines(uint32_t *words, uint32_t *video, size_t video_len, uint16_t *palette, uint32_t *picture, size_t picture_len,' \
-        '           uint32_t lcdsaddr1, uint32_t lcdsaddr2) {'
+        '           uint32_t lcdsaddr1, uint32_t lcdsaddr2, uint32_t *stn_words, uint32_t frame, uint8_t *dots, size_t dots_len) {'
     sed -n '/^```c$/,/^```$/p' "$top/README.md" | sed '/^```/d; /^#include/d'
     echo '}'
 } > lines.c
 status=0
 gcc -std=c11 -Wall -Wextra -Werror -Wno-unused-but-set-variable -I"$top/host" -c lines.c -o lines.o 2> err || status=$?
-same "$status $(grep -c ' = lcd_' lines.c)" '0 5' "the README's lines of C: $(head -n 3 err)"
+same "$status $(grep -c ' = lcd_' lines.c)" '0 6' "the README's lines of C: $(head -n 3 err)"
 
 # docs/REFERENCE.md has the same numbers of refusal (§9.1) and the same declarations (§10.1) as lcd.h.
 reference=$top/docs/REFERENCE.md

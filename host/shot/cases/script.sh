@@ -84,7 +84,7 @@ while IFS= read -r line; do
     eval "$line" > out 2> err || status=$?
     same "$status $(wc -c < err)" "$([[ $line = *--against* ]] && echo 1 || echo 0) 0" "$line"
 done < <(sed -n 's/^ \{4,\}\(host\/lcdshot .*\)/\1/p; s/^ \{4,\}\(p="--palette.*\)/\1/p' README.md docs/DUMPS.md)
-same "$commands $(ls screen.png board.dump card.dump)" "20 board.dump
+same "$commands $(ls screen.png board.dump card.dump)" "21 board.dump
 card.dump
 screen.png" 'all commands were found'
 # in docs/REFERENCE.md the line below a command is the first that it prints
