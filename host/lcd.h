@@ -13,8 +13,8 @@
  * Of several numbers the lowest is returned (§9.2), with one exception: 10 comes first where there are fewer than nine words, or
  * where a scan that is read has fewer than 13 entries. §9.3 has each call's order; W and H are width and height.
  *
- * The calls about the words alone and the check take TFT panels (PNRMODE 3) and STN panels (PNRMODE 2); lcd_draw_stn takes STN panels,
- * every other drawing and the scan TFT panels. Another panel is refused by 2.
+ * lcd_check and lcd_counts take TFT panels (PNRMODE 3) and STN panels (PNRMODE 2); lcd_draw_stn takes STN panels, every other drawing
+ * and the scan TFT panels. Another panel is refused by 2. Fields and sizes are read of any words.
  *
  * The calls keep nothing between them, allocate nothing and may run on several threads at a time. Where a length is 0, its pointer
  * may be any aligned address but not null. A slice that a call writes must not overlap another slice of the same call. */
@@ -64,7 +64,7 @@ const char *lcd_refusal_text(uint32_t number);
  * Refuses 10 (fewer than nine words), then 1 to 8, 17. */
 uint32_t lcd_check(const uint32_t *words, size_t words_len, uint32_t window_start, const uint32_t *video, size_t video_len);
 
-/* Writes a frame's length and rate (§6.3, §6.4) to the first three entries of `counts`: clocks; HCLK ticks; the frame rate in
+/* Writes a frame's length and rate (§6.3, §6.4, §6.8) to the first three entries of `counts`: clocks; HCLK ticks; the frame rate in
  * millihertz at an HCLK of `hclk` Hz, rounded down. Further entries stay.
  * Refuses 10 (fewer than nine words), then 1 to 7, then 10 (`counts` has fewer than three entries), 17. */
 uint32_t lcd_counts(const uint32_t *words, size_t words_len, uint32_t hclk, uint64_t *counts, size_t counts_len);
@@ -113,7 +113,8 @@ enum lcd_field {
     LCD_FIELDS
 };
 
-/* The fields that only an STN panel has (§1.7): they lie in bits of these, and are read and written in their entries. */
+/* The fields that only an STN panel has (§1.7): WDLY, LINEBLANK and WLH lie in bits of HBPD, HFPD and HSPW, and are read and written in
+ * their entries. */
 enum { LCD_WDLY = LCD_HBPD, LCD_LINEBLANK = LCD_HFPD, LCD_WLH = LCD_HSPW };
 
 /* Reads the 34 fields of the nine words into the first 34 entries of `fields`. Further entries stay.
@@ -126,7 +127,8 @@ uint32_t lcd_read_fields(const uint32_t *words, size_t words_len, uint32_t *fiel
 uint32_t lcd_write_fields(const uint32_t *fields, size_t fields_len, uint32_t *words, size_t words_len);
 
 /* The sizes of the panel (§10.3). On TFT each is at least 1, except that the stored bits may be 0. On STN a line has no clocks but its
- * HOZVAL + 1 active ones and a frame no lines but its H: the syncs and porches are 0. */
+ * HOZVAL + 1 active ones and a frame no lines but its H: the syncs and porches are 0. The ticks of a clock are 0 there
+ * where CLKVAL is. */
 enum lcd_size {
     LCD_SIZE_WIDTH,       /* pixels in a row, W */
     LCD_SIZE_HEIGHT,      /* rows, H */
@@ -144,7 +146,7 @@ enum lcd_size {
 };
 
 /* Reads the 12 sizes of the panel into the first 12 entries of `sizes`. Further entries stay. Like lcd_read_fields it judges only 1
- * of the words, so it also answers for words that other calls refuse with 2 to 7.
+ * of the words, so it also answers for words that other calls refuse with 2 to 7 and 17.
  * Refuses 10 (fewer than nine words), then 1, then 10 (`sizes` has fewer than 12 entries). */
 uint32_t lcd_read_sizes(const uint32_t *words, size_t words_len, uint32_t *sizes, size_t sizes_len);
 

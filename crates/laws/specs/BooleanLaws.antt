@@ -39,6 +39,10 @@ pub or-never : (a : Bool) → a || false ≡ a
 or-never true = refl
 or-never false = refl
 
+pub and-never : (a : Bool) → a && false ≡ false
+and-never true = refl
+and-never false = refl
+
 pub or-true : (a : Bool) → a || true ≡ true
 or-true true = refl
 or-true false = refl
@@ -71,13 +75,6 @@ one-below (suc n) p i h t = go (ℕ-discrete i n) (λ l. one-below n p i l t)
     go : Dec (i ≡ n) → (i < n → someBelow n p ≡ true) → p n || someBelow n p ≡ true
     go (yes e) below = rw (← e, t)
     go (no ne) below = ap (λ (b : Bool). p n || b) (below (omega arith)) ∙ or-true (p n)
-
-pub each-below : (n : ℕ) (p : ℕ → Bool) → someBelow n p ≡ false → (i : ℕ) → i < n → p i ≡ false
-each-below n p e i h = go (p i) refl
-  where
-    go : (b : Bool) → p i ≡ b → p i ≡ false
-    go true t = absurd (true≢false (sym (one-below n p i h t) ∙ e))
-    go false t = t
 
 -- ---- a branch: what it gives, where its test r is that of a choice
 

@@ -7,10 +7,10 @@ use native.Mathlib.Nat.{mul-le-mul-right, mul-mod-left, mul-assoc, mul-comm, eq-
 use native.Mathlib.Omega.{arith}
 use borrow.Author.Tests.{eqb-true, eqb-false, ltb-false, not-false, eq-eqb, ne-eqb}
 use lib.Dec.{eqb}
-use Rattle.laws.specs.BooleanLaws.{or-false-left, or-false-right}
+use Rattle.laws.specs.BooleanLaws.{and-never, or-false-left, or-false-right}
 use Rattle.laws.specs.ProductLaws.{product-le}
 use Rattle.laws.specs.CaseLaws.{NoneHolds, lowest-zero-none-holds}
-use Rattle.registers.specs.Fields.{pnrmode, bppmode, hozval, bswp, hwswp, lcdbaseu, lcdbasel, pagewidth, offsize, stn, reservedBit}
+use Rattle.registers.specs.Fields.{pnrmode, bppmode, bswp, hwswp, lcdbaseu, lcdbasel, pagewidth, offsize, stn, reservedBit}
 use Rattle.registers.specs.declared.Words.{Words}
 use Rattle.panel.specs.Geometry.{width, height, storedBits, outsideModes, stnWidth, stnBits, outsideStnModes, panelWidth, panelBits, pitch, rowOffset}
 use Rattle.panel.specs.Refusals.{upToByte, notTft, notStn, neitherPanel, noSuchMode, swapsIllegal, rowSizeWrong, endDiffers, pastBank}
@@ -117,10 +117,6 @@ module _ (other : Bool) (w : Words) (e : judgeWhere other w ≡ 0) where
         last-row-inside = ltb-false (2 ^ 21) (rowOffset w (height w - 1) + pagewidth w) (none .1 .1 .1 .1 .1 .1 .0);
       }
 
-and-false : (a : Bool) → a && false ≡ false
-and-false true = refl
-and-false false = refl
-
 -- words that a call accepts are accepted by one that takes either panel
 either-of : (other : Bool) (w : Words) → judgeWhere other w ≡ 0 → (other ≡ false → neitherPanel w ≡ false) → judgeEither w ≡ 0
 unfolding judgeEither judgeWhere
@@ -134,7 +130,7 @@ either-of-tft w e = either-of (notTft w) w e (λ f. rw f)
 
 pub either-of-stn : (w : Words) → judgeStn w ≡ 0 → judgeEither w ≡ 0
 unfolding judgeStn judgeWhere neitherPanel
-either-of-stn w e = either-of (notStn w) w e (λ f. ap (λ (b : Bool). notTft w && b) f ∙ and-false (notTft w))
+either-of-stn w e = either-of (notStn w) w e (λ f. ap (λ (b : Bool). notTft w && b) f ∙ and-never (notTft w))
 
 pub laid-either : (w : Words) → judgeEither w ≡ 0 → Laid w
 unfolding judgeEither judgeWhere
@@ -209,11 +205,7 @@ up-to-byte-le n t = go (decLe n 8)
 -- ---- what follows on any panel
 
 module _ (w : Words) (a : Laid w) where
-  -- a row is a whole number of words
-  panel-row-in-words : panelWidth w * panelBits w ≡ pagewidth w / 2 * 32
-  panel-row-in-words = omega (arith, a .row-bits, a .row-even)
-
-  -- one at least
+  -- a row has a word at least
   pub row-has-words : 2 ≤ pagewidth w
   unfolding panelWidth
   row-has-words =

@@ -1,4 +1,4 @@
--- A frame's clocks and HCLK ticks (§6.3) and its rate (§6.4), on STN too (§6.8), of words that `accept` and 17 pass (§9.3).
+-- A frame's clocks and HCLK ticks (§6.3) and its rate (§6.4), on STN too (§6.8), of words that 1 to 7 and 17 let pass (§9.3).
 -- `frameTicks` and `frameMillihertz` are a TFT panel's. Promises cite it, so a reader must believe it.
 use mathlib.Core.Bool.{cond}
 use mathlib.Core.List.{List, [], _∷_}

@@ -1,7 +1,6 @@
 // A frame's clocks and HCLK ticks (§6.3) and its rate (§6.4), of either panel (§6.8), by the nine words that a slice begins with. A caller
-// that wants all of them takes the words by `accept`, which judges them once, and asks for each.
+// that wants all of them takes the words by `accept`, which judges them once by 1 to 7, asks `clock_too_fast` (17), and then for each.
 ghost use mathlib.Core.Path.{_≡_};
-ghost use Rattle.laws.specs.Answers.{judged};
 ghost use Rattle.registers.specs.Loading.{loaded};
 ghost use Rattle.panel.specs.Counts.{panelClocks, panelTicks, panelMillihertz, acceptTimed, timedWords, counted, counts, rated, rate};
 use super::refusals::accept;

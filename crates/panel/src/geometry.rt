@@ -11,7 +11,7 @@ pub enum Depth {
     Refused(u32),
 }
 
-// Pixels in a row.
+// Pixels in a row of a TFT panel (§2.1).
 pub fn width(w: Words) -> u32
     ensures { λ r. ⌜ r ≡ width w ⌝ }
 {

@@ -1,4 +1,4 @@
-// Clocks and lines of a frame (§6.1 to §6.3), and its rate (§6.4).
+// Clocks and lines of a TFT panel's frame (§6.1 to §6.3), and its rate (§6.4).
 ghost use mathlib.Core.Path.{_≡_};
 ghost use Prim.Native.Nat.{_+_};
 ghost use Rattle.registers.specs.Fields.{vspw, vbpd, vfpd, hspw, hbpd, hfpd};

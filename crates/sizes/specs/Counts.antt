@@ -1,4 +1,5 @@
--- A frame's counts, of either panel, into a lent slice (§10.3), and the order of the refusals (§9.3). Promises cite it, so a reader must believe it.
+-- A frame's counts, of either panel, into a lent slice (§10.3), and the order of the refusals (§9.3). Promises cite it, so a reader must
+-- believe it.
 use mathlib.Core.List.{List, [], _∷_}
 use Prim.Native.Nat.{ℕ}
 use lib.ListN.{length, getD}

@@ -1,12 +1,11 @@
 -- How often a level is lit (§5.8, §5.9): at n of any d phases in a row.
-use mathlib.Core.Bool.{Bool, true, _&&_}
+use mathlib.Core.Bool.{Bool}
 use mathlib.Core.Path.{_≡_, refl, sym, ap₂, _∙_}
 use Prim.Native.Nat.{ℕ, zero, suc, _+_, _%_, _<_}
-use native.Mathlib.Decide.{ℕ-discrete}
 use native.Mathlib.Nat.{mod-lt, mod-add-mod}
 use native.Mathlib.Omega.{arith}
 use lib.Dec.{T, eqb, eqb→eq}
-use Rattle.laws.specs.BooleanLaws.{and-left, and-right}
+use Rattle.laws.specs.TableLaws.{allBelow, number-passes}
 use Rattle.stn.specs.Greys.{bit, duty, lit}
 use Rattle.stn.specs.OverFrames.{countBelow}
 use Rattle.stn.specs.declared.greys.Duty.{Duty}
@@ -18,18 +17,6 @@ count-same zero p q e = refl
 count-same (suc n) p q e =
     ap₂ (λ (m : ℕ) (b : Bool). m + bit b) (count-same n p q (λ i h. e i (omega arith))) (e n (omega arith))
 
-abbrev allBelow : ℕ → (ℕ → Bool) → Bool
-allBelow zero p = true
-allBelow (suc n) p = p n && allBelow n p
-
-each : (n : ℕ) (p : ℕ → Bool) → T (allBelow n p) → (i : ℕ) → i < n → T (p i)
-each zero p t i h = absurd (omega arith)
-each (suc n) p t i h = go (ℕ-discrete i n) (each n p (and-right (p n) (allBelow n p) t) i)
-  where
-    go : Dec (i ≡ n) → (i < n → T (p i)) → T (p i)
-    go (yes e) below = rw e (and-left (p n) (allBelow n p) t)
-    go (no ne) below = below (omega arith)
-
 -- the phases in which a pixel is lit, of the d from x on
 abbrev litFrom : Duty → ℕ → ℕ
 litFrom q x = countBelow (q .d) (λ i. lit q (x + i))
@@ -39,7 +26,7 @@ by-test : (level x : ℕ) → x < duty level .d → litFrom (duty level) x ≡ d
 unfolding countBelow lit
 by-test level x h =
     eqb→eq (litFrom (duty level) x) (duty level .n)
-    (each (duty level .d) (λ r. eqb (litFrom (duty level) r) (duty level .n))
+    (number-passes (duty level .d) (λ r. eqb (litFrom (duty level) r) (duty level .n))
     (each-duty (λ q. allBelow (q .d) (λ r. eqb (litFrom q r) (q .n))) tt level) x h)
 
 -- so there are n of any d in a row

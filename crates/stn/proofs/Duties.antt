@@ -1,32 +1,23 @@
 -- Laws of the duties (§5.8): what holds of each entry of their table, and when two phases light a level alike (§5.9).
-use mathlib.Core.Bool.{Bool, true, _&&_}
-use mathlib.Core.List.{List, [], _∷_}
+use mathlib.Core.Bool.{Bool}
+use mathlib.Core.List.{_∷_}
 use mathlib.Core.Path.{_≡_, sym, ap, _∙_}
-use Prim.Native.Nat.{ℕ, zero, suc, _+_, _*_, _/_, _%_, _<_, _≤_}
+use Prim.Native.Nat.{ℕ, _+_, _*_, _/_, _%_, _<_, _≤_}
 use native.Mathlib.Nat.{mod-add-div', add-mul-mod-self-right, mod-mod-of-dvd, dvd-of-mod-eq-zero}
 use native.Mathlib.Omega.{arith}
 use lib.Dec.{T, eqb, ltb, leb, eqb→eq, ltb→lt, leb→le}
-use lib.ListN.{getD}
 use Rattle.laws.specs.BooleanLaws.{and-left, and-right}
+use Rattle.laws.specs.TableLaws.{every, every-place-passes}
 use Rattle.stn.specs.Greys.{_of_, duties, duty, lit}
 use Rattle.stn.specs.declared.greys.Duty.{Duty}
 
 -- ---- what holds of each duty
 
-abbrev every : (Duty → Bool) → List Duty → Bool
-every p [] = true
-every p (q ∷ qs) = p q && every p qs
-
-passes : (p : Duty → Bool) (qs : List Duty) → T (every p qs) → (q : Duty) → T (p q) → (k : ℕ) → T (p (getD qs k q))
-passes p [] t q d k = d
-passes p (x ∷ xs) t q d zero = and-left (p x) (every p xs) t
-passes p (x ∷ xs) t q d (suc k) = passes p xs (and-right (p x) (every p xs) t) q d k
-
 -- a test of the whole table holds of a level's duty
 pub each-duty : (p : Duty → Bool) → T (every p ((0 of 1) ∷ duties)) → (level : ℕ) → T (p (duty level))
 unfolding duty
 each-duty p t level =
-    passes p duties (and-right (p (0 of 1)) (every p duties) t) (0 of 1) (and-left (p (0 of 1)) (every p duties) t) level
+    every-place-passes p duties (and-right (p (0 of 1)) (every p duties) t) (0 of 1) (and-left (p (0 of 1)) (every p duties) t) level
 
 pub denominator-pos : (level : ℕ) → 0 < duty level .d
 denominator-pos level = ltb→lt 0 (duty level .d) (each-duty (λ q. ltb 0 (q .d)) tt level)

@@ -17,7 +17,7 @@ use Rattle.pixels.specs.Order.{storedPixel}
 use Rattle.registers.specs.Fields.{bppmode, bswp}
 use Rattle.stn.specs.Drawing.{rowBytes, frameBytes, stnByte, byteIn, judgeStnDrawing, drawStn}
 use Rattle.stn.specs.Greys.{duty, lit, shown, bit, rowByte}
-use Rattle.stn.specs.OverFrames.{countBelow, Frames, Pixel, bitOf}
+use Rattle.stn.specs.OverFrames.{Pixel, bitOf, GreyLitNOfD, MonoAsStored}
 use Rattle.stn.proofs.Counting.{count-same, lit-n-of-d}
 use Rattle.stn.proofs.FrameBytes.{row-in-frame, byte-of-frame}
 use Rattle.stn.proofs.Judged.{bytes-lent}
@@ -77,9 +77,7 @@ module _ (s : Screen) (memory : List ℕ) (f : ℕ) (was left : List ℕ) (d : d
 -- ---- over several frames
 
 -- of a pixel that keeps its grey level, n of any d frames in a row are lit
-pub grey-lit-n-of-d : (f r c level : ℕ) (frames : Frames f (duty level .d))
-    → ((i : ℕ) → i < duty level .d → Pixel (frames .screen i) (frames .memory i) r c 2 level)
-    → countBelow (duty level .d) (λ i. eqb (bitOf (frames .screen i .words) (frames .left i) r c) 1) ≡ duty level .n
+pub grey-lit-n-of-d : GreyLitNOfD
 unfolding stnBits shown
 grey-lit-n-of-d f r c level frames same =
     count-same (duty level .d) _ (λ i. lit (duty level) (f + r + c + i))
@@ -89,8 +87,7 @@ grey-lit-n-of-d f r c level frames same =
     ∙ lit-n-of-d level (f + r + c)
 
 -- a mono pixel is lit where it is 1
-pub mono-as-stored : (f n r c v : ℕ) (frames : Frames f n) (i : ℕ) → i < n → Pixel (frames .screen i) (frames .memory i) r c 0 v
-    → eqb (bitOf (frames .screen i .words) (frames .left i) r c) 1 ≡ eqb v 1
+pub mono-as-stored : MonoAsStored
 unfolding stnBits shown
 mono-as-stored f n r c v frames i h p =
     test-shown (frames .screen i) (frames .memory i) (f + i) (frames .was i) (frames .left i) (frames .drawn i h) r c 0 v p

@@ -27,7 +27,7 @@ pub record Patterns (table : List ℕ) : Type 0 where
 abbrev pub litIn : ℕ → ℕ → ℕ → Bool
 litIn x phase k = lit (duty (pixelBits 4 x k)) (phase + k)
 
--- a mono mode, else one of 16 greys
+-- mono; else 16 greys
 abbrev pub mono : Words → Bool
 mono w = eqb (bppmode w) 0
 

@@ -26,7 +26,7 @@ duty level = getD duties level (0 of 1)
 unfoldable pub lit : Duty → ℕ → Bool
 lit q phase = ltb (phase * q .n % q .d) (q .n)
 
--- whether stored bits v are lit, by their number (§5.9): of 1 bit where it is 1, of 4 by the level's duty
+-- whether the stored bits v of a pixel are lit, by how many they are (§5.9): 1 bit where it is 1, 4 by the level's duty
 unfoldable pub shown : ℕ → ℕ → ℕ → Bool
 shown bits v phase = cond (eqb bits 1) (eqb v 1) (lit (duty v) phase)
 

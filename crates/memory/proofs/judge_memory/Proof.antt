@@ -1,8 +1,8 @@
 -- `memory::judge_memory` meets its contract: 1 to 7, and then 8.
 use mathlib.Core.List.{[], _∷_}
-use mathlib.Core.Path.{sym, _∙_, refl}
+use mathlib.Core.Path.{sym, _∙_}
 use Rattle.laws.specs.Cases.{_when_}
-use Rattle.laws.specs.CaseLaws.{and-next, further}
+use Rattle.laws.specs.CaseLaws.{further}
 use Rattle.panel.specs.Refusals.{wordCases, judge}
 use Rattle.panel.proofs.Accepted.{either-of-tft}
 use Rattle.memory.specs.Memory.{outsideMemory, judgeMemory}

@@ -1,8 +1,8 @@
 -- `memory::judge_stn_memory` meets its contract: 1 to 7, and then 8.
 use mathlib.Core.List.{[], _∷_}
-use mathlib.Core.Path.{sym, _∙_, refl}
+use mathlib.Core.Path.{sym, _∙_}
 use Rattle.laws.specs.Cases.{_when_}
-use Rattle.laws.specs.CaseLaws.{and-next, further}
+use Rattle.laws.specs.CaseLaws.{further}
 use Rattle.panel.specs.Refusals.{stnCases, judgeStn}
 use Rattle.panel.proofs.Accepted.{either-of-stn}
 use Rattle.memory.specs.Memory.{outsideMemory, judgeStnMemory}
