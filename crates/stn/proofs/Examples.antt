@@ -16,7 +16,7 @@ use Rattle.pixels.specs.Order.{reverseBytes, inOrder, pixelBits, storedPixel}
 use Rattle.registers.specs.Fields.{stn, reservedBit}
 use Rattle.registers.specs.Loading.{nineWords, tooShort}
 use Rattle.stn.specs.Drawing.{rowBytes, byteIn, stnByte, judgeStnDrawing, drawStn}
-use Rattle.stn.specs.Greys.{duty, lit, shown, packed, rowByte}
+use Rattle.stn.specs.Greys.{duty, lit, litBits, packed, rowByte}
 
 -- ---- bytes of a row
 
@@ -31,7 +31,7 @@ bytesAt bits bswp memory columns phase = map (rowByte bits bswp memory 0 phase) 
 pub ramp-in-seven-frames : map (bytesAt 4 false ramp (0 ∷ 1 ∷ [])) (0 ∷ 1 ∷ 2 ∷ 3 ∷ 4 ∷ 5 ∷ 6 ∷ [])
     ≡ (0x04 ∷ 0x4F ∷ []) ∷ (0x13 ∷ 0xF5 ∷ []) ∷ (0x08 ∷ 0x3F ∷ []) ∷ (0x25 ∷ 0xDB ∷ []) ∷ (0x02 ∷ 0x2F ∷ [])
     ∷ (0x1D ∷ 0xF7 ∷ []) ∷ (0x42 ∷ 0xDF ∷ []) ∷ []
-unfolding rowByte packed shown duty lit storedPixel pixelBits inOrder
+unfolding rowByte packed litBits duty lit storedPixel pixelBits inOrder
 ramp-in-seven-frames = refl
 
 -- mono, at any phase
@@ -39,11 +39,11 @@ abbrev monoBytes : Bool → ℕ → List ℕ
 monoBytes bswp = bytesAt 1 bswp (0x12345678 ∷ []) (0 ∷ 1 ∷ 2 ∷ 3 ∷ [])
 
 pub mono-bytes : (phase : ℕ) → monoBytes false phase ≡ 0x12 ∷ 0x34 ∷ 0x56 ∷ 0x78 ∷ []
-unfolding rowByte packed shown storedPixel pixelBits inOrder
+unfolding rowByte packed litBits storedPixel pixelBits inOrder
 mono-bytes phase = refl
 
 pub mono-bytes-swapped : (phase : ℕ) → monoBytes true phase ≡ 0x78 ∷ 0x56 ∷ 0x34 ∷ 0x12 ∷ []
-unfolding rowByte packed shown storedPixel pixelBits inOrder reverseBytes
+unfolding rowByte packed litBits storedPixel pixelBits inOrder reverseBytes
 mono-bytes-swapped phase = refl
 
 -- ---- drawings of a panel of 8 by 2 in 16 greys
@@ -60,7 +60,7 @@ drawnAt con5 f = drawStn (panel 0x245 con5) ramp f (0xAA ∷ 0xAA ∷ 0xAA ∷ [
 pub drawings : drawnAt 0 0 ∷ drawnAt 0 6 ∷ drawnAt 0 (2 ^ 32 - 1) ∷ drawnAt 2 3 ∷ []
     ≡ (0x04 ∷ 0x63 ∷ 0xAA ∷ []) ∷ (0x42 ∷ 0xBF ∷ 0xAA ∷ []) ∷ (0x05 ∷ 0xFB ∷ 0xAA ∷ []) ∷ (0xC4 ∷ 0xFC ∷ 0xAA ∷ [])
     ∷ []
-unfolding drawStn outcome stores stnByte byteIn rowBytes rowByte packed shown duty lit storedPixel pixelBits inOrder reverseBytes judgeStnDrawing lowest lower reservedBit stn notStn noSuchMode outsideStnModes swapsIllegal stnBits panelBits panelWidth rowSizeWrong endDiffers pastBank rowOffset outsideMemory someBelow wordOutside rowAddress firstWord videoOff tooShort clockTooFast
+unfolding drawStn outcome stores stnByte byteIn rowBytes rowByte packed litBits duty lit storedPixel pixelBits inOrder reverseBytes judgeStnDrawing lowest lower reservedBit stn notStn noSuchMode outsideStnModes swapsIllegal stnBits panelBits panelWidth rowSizeWrong endDiffers pastBank rowOffset outsideMemory someBelow wordOutside rowAddress firstWord videoOff tooShort clockTooFast
 drawings = refl
 
 -- refusals by LCDCON1, lent words and lent bytes: none; 17 (CLKVAL 1), after 10 (a byte too few), after 9 (ENVID 0), after 8 (a word too

@@ -16,7 +16,7 @@ use Rattle.panel.specs.Geometry.{stnBits}
 use Rattle.pixels.specs.Order.{storedPixel}
 use Rattle.registers.specs.Fields.{bppmode, bswp}
 use Rattle.stn.specs.Drawing.{rowBytes, frameBytes, stnByte, byteIn, judgeStnDrawing, drawStn}
-use Rattle.stn.specs.Greys.{duty, lit, shown, bit, rowByte}
+use Rattle.stn.specs.Greys.{duty, lit, litBits, bit, rowByte}
 use Rattle.stn.specs.OverFrames.{Pixel, bitOf, GreyLitNOfD, MonoAsStored}
 use Rattle.stn.proofs.Counting.{count-same, lit-n-of-d}
 use Rattle.stn.proofs.FrameBytes.{row-in-frame, byte-of-frame}
@@ -54,21 +54,21 @@ module _ (s : Screen) (memory : List ℕ) (f : ℕ) (was left : List ℕ) (d : d
 
   -- column k of the row, by its mode
   abbrev shows : ℕ → ℕ → Bool
-  shows m k = shown (stnBits m) (storedPixel (stnBits m) (eqb (bswp (s .words)) 1) false memory (firstWord s r) k) (f + r + k)
+  shows m k = litBits (stnBits m) (storedPixel (stnBits m) (eqb (bswp (s .words)) 1) false memory (firstWord s r) k) (f + r + k)
 
-  -- its bit is 1 where it is shown lit
-  pub bit-shown : bitOf (s .words) left r c ≡ bit (shown (stnBits mode) v (f + r + c))
+  -- its bit is 1 where it is lit
+  pub bit-lit : bitOf (s .words) left r c ≡ bit (litBits (stnBits mode) v (f + r + c))
   unfolding bitOf byteIn rowByte
-  bit-shown =
+  bit-lit =
       ap (λ (b : ℕ). b / 2 ^ (7 - c % 8) % 2) its-byte
       ∙ bit-of-packed (λ k. shows (bppmode (s .words)) (8 * (c / 8) + k)) 8 (c % 8) (omega arith)
       ∙ ap (λ (k : ℕ). bit (shows (bppmode (s .words)) k)) {y = c} (omega arith)
       ∙ ap (λ (m : ℕ). bit (shows m c)) (p .in-mode)
-      ∙ ap (λ (x : ℕ). bit (shown (stnBits mode) x (f + r + c))) (p .stored)
+      ∙ ap (λ (x : ℕ). bit (litBits (stnBits mode) x (f + r + c))) (p .stored)
 
   -- as a test
-  pub test-shown : eqb (bitOf (s .words) left r c) 1 ≡ shown (stnBits mode) v (f + r + c)
-  test-shown = ap (λ (n : ℕ). eqb n 1) bit-shown ∙ is-1 (shown (stnBits mode) v (f + r + c))
+  pub test-lit : eqb (bitOf (s .words) left r c) 1 ≡ litBits (stnBits mode) v (f + r + c)
+  test-lit = ap (λ (n : ℕ). eqb n 1) bit-lit ∙ is-1 (litBits (stnBits mode) v (f + r + c))
     where
       is-1 : (b : Bool) → eqb (bit b) 1 ≡ b
       is-1 true = refl
@@ -78,16 +78,16 @@ module _ (s : Screen) (memory : List ℕ) (f : ℕ) (was left : List ℕ) (d : d
 
 -- of a pixel that keeps its grey level, n of any d frames in a row are lit
 pub grey-lit-n-of-d : GreyLitNOfD
-unfolding stnBits shown
+unfolding stnBits litBits
 grey-lit-n-of-d f r c level frames same =
     count-same (duty level .d) _ (λ i. lit (duty level) (f + r + c + i))
     (λ i h.
-    test-shown (frames .screen i) (frames .memory i) (f + i) (frames .was i) (frames .left i) (frames .drawn i h) r c 2 level (same i h)
+    test-lit (frames .screen i) (frames .memory i) (f + i) (frames .was i) (frames .left i) (frames .drawn i h) r c 2 level (same i h)
     ∙ ap (lit (duty level)) (omega arith))
     ∙ lit-n-of-d level (f + r + c)
 
 -- a mono pixel is lit where it is 1
 pub mono-as-stored : MonoAsStored
-unfolding stnBits shown
+unfolding stnBits litBits
 mono-as-stored f n r c v frames i h p =
-    test-shown (frames .screen i) (frames .memory i) (f + i) (frames .was i) (frames .left i) (frames .drawn i h) r c 0 v p
+    test-lit (frames .screen i) (frames .memory i) (f + i) (frames .was i) (frames .left i) (frames .drawn i h) r c 0 v p

@@ -10,7 +10,7 @@ use Rattle.pixels.specs.Order.{inOrder, pixelBits, storedPixel}
 use Rattle.pixels.proofs.PixelOrder.{pixel-bits-lt}
 use Rattle.pixels.proofs.StoredPixels.{word-pixel}
 use Rattle.stn.specs.Core.{pattern, Patterns, litIn}
-use Rattle.stn.specs.Greys.{duty, lit, shown, bit, packed, rowByte}
+use Rattle.stn.specs.Greys.{duty, lit, litBits, bit, packed, rowByte}
 use Rattle.stn.proofs.Duties.{lit-by-420}
 use Rattle.stn.proofs.Packing.{packed-same, packed-bits, bit-of-packed}
 
@@ -20,9 +20,9 @@ use Rattle.stn.proofs.Packing.{packed-same, packed-bits, bit-of-packed}
 alike-on : (x y k : ℕ) → x % 420 ≡ y % 420 → (x + k) % 420 ≡ (y + k) % 420
 alike-on x y k e = omega arith
 
-pub shown-alike : (bits v x y : ℕ) → x % 420 ≡ y % 420 → shown bits v x ≡ shown bits v y
-unfolding shown
-shown-alike bits v x y e = ap (cond (eqb bits 1) (eqb v 1)) (lit-by-420 v x y e)
+pub bits-alike : (bits v x y : ℕ) → x % 420 ≡ y % 420 → litBits bits v x ≡ litBits bits v y
+unfolding litBits
+bits-alike bits v x y e = ap (cond (eqb bits 1) (eqb v 1)) (lit-by-420 v x y e)
 
 pub row-byte-alike : (bits : ℕ) (bswp : Bool) (memory : List ℕ) (base x y j : ℕ) → x % 420 ≡ y % 420
     → rowByte bits bswp memory base x j ≡ rowByte bits bswp memory base y j
@@ -31,7 +31,7 @@ row-byte-alike bits bswp memory base x y j e =
     packed-same _ _ 8
     (λ k h.
     let c = 8 * j + k in
-    shown-alike bits (storedPixel bits bswp false memory base c) (x + c) (y + c) (alike-on x y c e))
+    bits-alike bits (storedPixel bits bswp false memory base c) (x + c) (y + c) (alike-on x y c e))
 
 -- ---- 16 greys: byte j is word j
 
@@ -54,7 +54,7 @@ bit-looked-up table is x phase k v h l e =
 pub byte-of-greys : (bswp : Bool) (memory : List ℕ) (base phase j x p : ℕ) → x ≡ inOrder bswp false (getD memory (base + j) 0)
     → p % 420 ≡ (phase + 8 * j) % 420
     → packed (litIn x p) 8 ≡ rowByte 4 bswp memory base phase j
-unfolding rowByte shown
+unfolding rowByte litBits
 byte-of-greys bswp memory base phase j x p e f =
     packed-same _ _ 8
     (λ k h.
@@ -69,7 +69,7 @@ byte-of-greys bswp memory base phase j x p e f =
 pub byte-of-mono : (bswp : Bool) (memory : List ℕ) (base phase i b x : ℕ) → b < 4
     → x ≡ inOrder bswp false (getD memory (base + i) 0)
     → pixelBits 8 x b ≡ rowByte 1 bswp memory base phase (i * 4 + b)
-unfolding rowByte shown pixelBits
+unfolding rowByte litBits pixelBits
 byte-of-mono bswp memory base phase i b x h e =
     ap (λ (n : ℕ). x / 2 ^ n % 2 ^ 8) {y = 32 - 8 * b - 8} (omega arith)
     ∙ sym (packed-bits x (32 - 8 * b) 8 (omega arith))

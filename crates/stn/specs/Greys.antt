@@ -27,8 +27,8 @@ unfoldable pub lit : Duty → ℕ → Bool
 lit q phase = ltb (phase * q .n % q .d) (q .n)
 
 -- whether the stored bits v of a pixel are lit, by how many they are (§5.9): 1 bit where it is 1, 4 by the level's duty
-unfoldable pub shown : ℕ → ℕ → ℕ → Bool
-shown bits v phase = cond (eqb bits 1) (eqb v 1) (lit (duty v) phase)
+unfoldable pub litBits : ℕ → ℕ → ℕ → Bool
+litBits bits v phase = cond (eqb bits 1) (eqb v 1) (lit (duty v) phase)
 
 -- 1 for lit
 abbrev pub bit : Bool → ℕ
@@ -42,4 +42,4 @@ packed g (suc n) = packed g n * 2 + bit (g n)
 -- byte j of a row that begins with the memory's word `base`: columns 8j to 8j + 7 (§5.10). The phase is that of column 0
 unfoldable pub rowByte : ℕ → Bool → List ℕ → ℕ → ℕ → ℕ → ℕ
 rowByte bits bswp memory base phase j =
-    packed (λ k. shown bits (storedPixel bits bswp false memory base (8 * j + k)) (phase + (8 * j + k))) 8
+    packed (λ k. litBits bits (storedPixel bits bswp false memory base (8 * j + k)) (phase + (8 * j + k))) 8

@@ -4,7 +4,7 @@ use mathlib.Core.Path.{_≡_, ap}
 use native.Mathlib.Omega.{arith}
 use borrow.Author.Needs.{needs}
 use Rattle.stn.specs.Core.{bytesOf}
-use Rattle.stn.specs.Greys.{shown, rowByte}
+use Rattle.stn.specs.Greys.{litBits, rowByte}
 use Rattle.stn.proofs.rows.draw_row.Statement.{statement}
 use Rattle.stn.proofs.rows.draw_row.Tie as tie
 
@@ -29,7 +29,7 @@ draw-greys-requires c κs =
     (pre .0, pre .1 (other .if1 .left), pre .2, omega (arith, pre .3, bytes-of (other .before) false (other .if1 .left)))
 
 returns : tie.Need-returns
-unfolding rowByte shown
+unfolding rowByte litBits
 returns c =
     let drew = c .before .before in
     rw (drew .before .before .if1 .taken) (drew .draw-mono .ensures)
