@@ -131,15 +131,17 @@ static void say_line_time(const struct readings *r) {
     say("line time   %s\n", time);
 }
 
+/* On STN there is no clock where CLKVAL is 0, and so there are no lines and frames. */
 static void say_rates(const struct readings *r) {
     uint32_t hclk = r->dump->hclk, ticks = r->sizes[LCD_SIZE_TICKS];
     if (!hclk) {
         say("HCLK        %s, no rates\n", r->dump->no_hclk ? "not given" : "0 Hz");
         return;
     }
-    say("HCLK        %" PRIu32 " Hz\n", hclk);
-    if (ticks)
-        say_rate("VCLK", hclk, ticks);
+    say("HCLK        %" PRIu32 " Hz%s\n", hclk, ticks ? "" : ", no VCLK, no rates");
+    if (!ticks)
+        return;
+    say_rate("VCLK", hclk, ticks);
     if (is_stn(r->dump->words))
         say_line_time(r);
     say_rate("line rate", hclk, line_ticks(r));
@@ -152,7 +154,8 @@ static void say_panel(const struct readings *r) {
     bool stn = is_stn(r->dump->words);
     char mode[MEANING];
     mode_meaning(r, mode);
-    say("panel       %" PRIu32 " by %" PRIu32 " pixels, %s%s\n", s[LCD_SIZE_WIDTH], s[LCD_SIZE_HEIGHT], stn ? "STN, " : "", mode);
+    say("panel       %" PRIu32 " by %" PRIu32 " pixels%s, %s%s\n", s[LCD_SIZE_WIDTH], s[LCD_SIZE_HEIGHT],
+        is_neither(r) ? " by TFT's rules (as all below)" : "", stn ? "STN, " : "", mode);
     if (stn) {
         say_ticks(r);
     } else {

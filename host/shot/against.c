@@ -96,7 +96,9 @@ static void find_words(struct against *a, const struct dump *old, const struct d
 }
 
 bool palette_differs(const struct shot *old, const struct shot *now, int entry) {
-    return !now->dump.no_palette && old->dump.palette[entry] != now->dump.palette[entry];
+    if (now->dump.no_palette || (is_stn(old->dump.words) && is_stn(now->dump.words)))
+        return false;
+    return old->dump.palette[entry] != now->dump.palette[entry];
 }
 
 /* Words alone have registers and nothing else to compare. */

@@ -30,6 +30,7 @@ struct against {
 
 void against_find(struct against *a, const struct shot *old, const struct shot *now);
 
+/* The palette means nothing on STN, and is no difference of two such dumps. */
 bool palette_differs(const struct shot *old, const struct shot *now, int entry);
 
 void against_say(const struct against *a, const struct shot *old, const struct shot *now);

@@ -233,6 +233,11 @@ uint64_t line_ticks(const struct readings *r) {
 
 /* ---- meanings */
 
+bool is_neither(const struct readings *r) {
+    uint32_t pnrmode = r->fields[LCD_PNRMODE];
+    return pnrmode != PANEL_STN && pnrmode != PANEL_TFT;
+}
+
 void mode_meaning(const struct readings *r, char *to) {
     uint32_t stored = r->sizes[LCD_SIZE_STORED_BITS];
     bool stn = reads_stn(r);

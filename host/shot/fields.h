@@ -72,6 +72,9 @@ void readings_ask(struct readings *r, const struct dump *d);
 
 enum { MEANING = 120 };
 
+/* Whether PNRMODE selects neither panel. Such words are refused, and their sizes and meanings are by TFT's rules. */
+bool is_neither(const struct readings *r);
+
 /* What a field's number means, in at most MEANING characters. */
 void field_meaning(const struct readings *r, int field, char *to);
 

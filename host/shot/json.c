@@ -5,6 +5,7 @@
 #include <stdio.h>
 #include <string.h>
 #include "account.h"
+#include "animation.h"
 
 /* ---- the writer */
 
@@ -153,20 +154,24 @@ static void put_sizes(const struct readings *r) {
     close("}");
 }
 
-/* In millihertz, rounded down. On STN there may be no clock. */
+/* In millihertz, rounded down. On STN there may be no clock, and then no rates. */
+static void put_rate(const char *key, const struct readings *r, uint64_t ticks) {
+    if (r->sizes[LCD_SIZE_TICKS])
+        number(key, millihertz_of(r->dump->hclk, ticks));
+    else
+        text(key, NULL);
+}
+
 static void put_rates(const struct readings *r) {
     const uint32_t *s = r->sizes;
     open("millihertz", "{");
-    if (s[LCD_SIZE_TICKS])
-        number("vclk", millihertz_of(r->dump->hclk, s[LCD_SIZE_TICKS]));
-    else
-        text("vclk", NULL);
-    number("line", millihertz_of(r->dump->hclk, line_ticks(r)));
-    number("frame", millihertz_of(r->dump->hclk, line_ticks(r) * s[LCD_SIZE_FRAME]));
+    put_rate("vclk", r, s[LCD_SIZE_TICKS]);
+    put_rate("line", r, line_ticks(r));
+    put_rate("frame", r, line_ticks(r) * s[LCD_SIZE_FRAME]);
     close("}");
 }
 
-/* An STN line in HCLK ticks and in time, which is null without HCLK. */
+/* An STN line in HCLK ticks and in time, which is null without HCLK or a clock. */
 static void put_line(const struct readings *r) {
     struct stn_pauses ticks = stn_pauses_of(r);
     open("stn_line", "{");
@@ -174,11 +179,36 @@ static void put_line(const struct readings *r) {
     number("vline", ticks.vline);
     number("delay", ticks.delay);
     number("blank", ticks.blank);
-    if (r->dump->hclk)
+    if (r->dump->hclk && r->sizes[LCD_SIZE_TICKS])
         number("nanoseconds", line_ticks(r) * 1000000000 / r->dump->hclk);
     else
         text("nanoseconds", NULL);
     close("}");
+}
+
+/* The number of the frame that an STN panel was drawn as; null where it is what the eye sees, or nothing is drawn. */
+static void put_frame(const struct shot *s) {
+    if (s->dump.one_frame && s->picture.colours)
+        number("frame", s->dump.frame);
+    else
+        text("frame", NULL);
+}
+
+/* And for an animation how many frames from that one on, and the seconds of each as a fraction. */
+static void put_frames(const struct shot *s) {
+    struct delay each;
+    put_frame(s);
+    if (!s->dump.frames || !s->picture.colours) {
+        text("frames", NULL);
+        text("frame_delay", NULL);
+        return;
+    }
+    each = animation_delay(&s->dump);
+    number("frames", s->dump.frames);
+    open("frame_delay", "[");
+    number(NULL, each.over);
+    number(NULL, each.under);
+    close("]");
 }
 
 static void put_memory(const struct dump *d) {
@@ -243,6 +273,8 @@ static void put_comparison(const struct shot *s) {
     const struct comparison *c = &s->comparison;
     open("comparison", "{");
     truth("equal", comparison_equal(c));
+    if (is_stn(s->dump.words))
+        put_frame(s);
     number("golden_width", c->width);
     number("golden_height", c->height);
     if (c->same_size) {
@@ -344,8 +376,10 @@ static void put_facts(const struct shot *s) {
     text("glass", account_glass(&s->readings));
     put_sizes(&s->readings);
     put_rates(&s->readings);
-    if (is_stn(s->dump.words))
+    if (is_stn(s->dump.words)) {
         put_line(&s->readings);
+        put_frames(s);
+    }
     put_memory(&s->dump);
     open("registers", "[");
     for (int word = 0; word < LCD_REGISTERS; word++)

@@ -156,6 +156,13 @@ static void say_animation(const struct shot *s, const struct options *o) {
         each.over, each.under, s->dump.hclk ? "" : ", since there is no HCLK");
 }
 
+/* A golden picture is what the eye sees, unless a frame is asked for. */
+static void say_comparison(const struct shot *s) {
+    if (s->dump.one_frame)
+        say("compared: frame %" PRIu32 ", not what the eye sees\n", s->dump.frame);
+    comparison_say(&s->comparison, &s->picture);
+}
+
 /* ---- one dump, or words: all is read and judged, then written, then told */
 
 static void write_outputs(const struct shot *s, const struct options *o) {
@@ -192,6 +199,7 @@ static void take_all(struct shot *s, struct shot *old, const struct options *o) 
         take_old(old, o);
     s->dump.one_frame = o->frame || o->animate;
     s->dump.frame = o->first_frame;
+    s->dump.frames = o->animate ? o->frames : 0;
     if (o->words[0])
         take_words(s, o);
     else
@@ -219,7 +227,7 @@ static int tell(const struct shot *s, const struct shot *old, const struct optio
     if (o->animate && s->picture.colours)
         say_animation(s, o);
     if (s->compared)
-        comparison_say(&s->comparison, &s->picture);
+        say_comparison(s);
     if (beside)
         against_say(&a, old, s);
     return status;

@@ -72,6 +72,8 @@ static void say_line(const struct shot *s, int width) {
         say("  refused %" PRIu32, s->refusal);
     else
         say("  accepted");
+    if (s->refusal != 14 && is_neither(&s->readings))
+        say("  size by TFT's rules");
     if (s->golden_error)
         say("  error with the golden picture: %s", s->golden_error);
     else if (s->compared && comparison_equal(&s->comparison))

@@ -18,7 +18,7 @@ run td035sted4-16.dump --golden-dir goldens
 same "$status: $(cat out)" '0: td035sted4-16.dump   240 by 320   16 bits    109.553 Hz  accepted  equal' 'one dump and a folder of golden pictures'
 run td035sted4-16.dump no-panel.dump short.dump
 same "$status: $(sed 's/  */ /g' out)" "1: td035sted4-16.dump 240 by 320 16 bits 109.553 Hz accepted
-no-panel.dump 1 by 2 24 bits no rate refused 2
+no-panel.dump 1 by 2 24 bits no rate refused 2 size by TFT's rules
 short.dump refused 14" 'refused ones'
 cp swap.dump lq64d343-2.dump && cp swap.dump goldens/swap.dump && cp "$td.png" goldens/swap.png
 run swap.dump lq64d343-2.dump td035sted4-16.dump --golden-dir goldens

@@ -139,11 +139,15 @@ for frame in 0x0 0XFFFFFFFF 0x00000001a3; do
     same "$status $(png values frame.png)" "0 $(python3 due.py $((frame)))" "frame $frame"
 done
 run mono.dump --frame 9 --compare mono.png
-same "$status: $(tail -n 1 out)" '0: equal: 64 pixels' 'all frames of mono are alike'
+same "$status: $(tail -n 2 out)" '0: compared: frame 9, not what the eye sees
+equal: 64 pixels' 'all frames of mono are alike'
+run mono.dump --compare mono.png
+same "$status $(grep -c '^compared' out)" '0 0' 'what the eye sees is compared'
 run grey.dump --frame 419 -o frame.png
 gives 1 "$due" grey.dump --compare frame.png
 gives 0 "$due" grey.dump --frame 839 --compare frame.png
 gives 1 "$due" grey.dump --frame 420 --compare frame.png
+says 'compared: frame 420, not what the eye sees' 'a frame that differs'
 
 wrong() { # what, arguments
     local what=$1
@@ -320,6 +324,14 @@ says 'judged with PNRMODE 3' 'the fault behind a wrong panel'
 refused 2 '225 4000 80103 2 8 18000000 8 4 0' 2
 says 'PNRMODE = 1, STN, 4-bit single scan' 'the arithmetic of 2'
 says 'lifted by PNRMODE 2, then accepted' 'the STN panel that is taken'
+says "panel 2 by 2 pixels by TFT's rules (as all below), no TFT mode" 'the rules that sizes of no panel go by'
+run refused.dump grey.dump "$td.dump" short.dump
+same "$(sed 's/  */ /g; s/^[^ ]*//' out)" " 2 by 2 no mode no rate refused 2 size by TFT's rules
+ 16 by 2 greys 3.906 kHz accepted
+ 240 by 320 16 bits 109.553 Hz accepted
+ refused 14" 'and in a line'
+refused 2 '19 4000 80103 2 b09 18000000 4 2 0' 2
+says "panel 2 by 2 pixels by TFT's rules (as all below), 16 bits a pixel" 'a mode of TFT with PNRMODE 0'
 refused 3 '247 4000 80103 2 8 18000000 8 4 0' 3
 says 'BPPMODE = 3, no STN mode' 'the arithmetic of 3'
 says 'lifted by BPPMODE 2, then accepted' 'the mode that fits'
@@ -358,7 +370,11 @@ says 'needed 0x30000000 to 0x3000000f, 16 bytes' 'the memory that a panel needs,
 refused 17 '45 4000 80103 2 8 18000000 8 4 0' 17
 says 'CLKVAL 17..8 0 no VCLK <- refused 17; lifted by 2, then accepted' 'no clock'
 says 'line 120 ticks: 2 clocks of 0, VLINE 64' 'a line without a clock'
-same "$(grep -c '^VCLK' out)" 0 'no rate of no clock'
+says 'HCLK 1000000 Hz, no VCLK, no rates' 'why there are no rates'
+same "$(grep -c '^VCLK\|^line time\|^line rate\|^frame rate' out)" 0 'no rates and no time without a clock'
+run refused.dump --json
+same "$(jq -c '.dumps[0] | [.millihertz, .stn_line.ticks, .stn_line.nanoseconds]' out)" \
+    '[{"vclk":null,"line":null,"frame":null},120,null]' 'nor in JSON'
 # every fault there is at once: 9 comes before 17
 refused 1 '46 4000 280103 2 9 18200000 9 4 0' '1 3 4 6 8 9 17'
 says 'judged with reserved bits cleared, BPPMODE 2, HWSWP 0 and LCDBASEL 8, the memory that is needed' 'what 9 is judged with'
@@ -412,6 +428,17 @@ same "$(grep 'HBPD\|HFPD\|HSPW\|PNRMODE' out | sed 's/   */  /g')" '  LCDCON1  P
   LCDCON3  HBPD  19, 20 clocks of back porch  ->  1, WDLY 1: 32 ticks from VLINE to VCLK
   LCDCON3  HFPD  9, 10 clocks of front porch  ->  3, LINEBLANK 3: 24 ticks of blank time a line
   LCDCON4  HSPW  9, 10 clocks of HSYNC  ->  2, WLH 2: 64 ticks of VLINE' 'an STN panel beside a TFT one'
+# the palette means something beside a TFT panel alone
+patch grey.dump 44 1 > palette.dump
+run palette.dump --against grey.dump
+same "$status $(tail -n 1 out)" '0 no difference from grey.dump' 'the palettes of two STN panels'
+run palette.dump --against grey.dump --json
+same "$status $(jq -c '.dumps[0].against | [.differs, .palette]' out)" '0 [false,[]]' 'their palettes in JSON'
+patch "$td.dump" 44 1 > palette.dump
+run grey.dump --against palette.dump
+says 'palette entry 0 0x0001 -> 0x0000' 'the palette of a TFT panel beside an STN one'
+run palette.dump --against "$td.dump"
+same "$status $(grep -c 'palette *entry' out)" '1 1' 'the palettes of two TFT panels'
 patch "$td.dump" 32 1 > tpal.dump
 run tpal.dump --against grey.dump
 says 'TPAL TPALVAL 0, reserved on STN -> 1, its colour, 0x000001' 'and the other way round'
@@ -442,6 +469,26 @@ run other.dump --json
 same "$(json '[.panel, .refusal]')" '[null,2]' 'no panel as JSON'
 run grey.dump --animate 2 -o two.png --json
 same "$status $(json .accepted) $(png head two.png)" "0 true 16 by 2 of 1 frames 2 delays ['4/15625']" 'frames beside JSON'
+frames_json() { # due, arguments
+    local line=$1
+    shift
+    run "$@" --json
+    same "$(json '[.frame, .frames, .frame_delay, .comparison.frame]')" "$line" "the frames as JSON: $*"
+}
+frames_json '[0,2,[4,15625],null]' grey.dump --animate 2 -o two.png
+frames_json '[7,3,[4,15625],null]' grey.dump --frame 7 --animate 3 -o two.png
+delay 0 1/60
+frames_json '[0,1,[1,60],null]' clock.dump --animate 1 -o two.png
+frames_json '[4294967295,null,null,null]' grey.dump --frame 4294967295 -o two.png
+frames_json '[0,null,null,0]' grey.dump --frame 0 --compare nine.png
+frames_json '[9,null,null,9]' grey.dump --frame 9 --compare nine.png
+frames_json '[null,null,null,null]' grey.dump --compare eye.png
+same "$(json '[has("frame", "frames", "frame_delay"), (.comparison | has("frame"))]')" '[true,true,true,true]' 'null is written'
+patch grey.dump 1 1 > refused.dump
+frames_json '[null,null,null,null]' refused.dump --frame 3 --animate 2 -o none.png
+frames_json '[null,null,null,null]' refused.dump --frame 3 -o none.png
+run "$td.dump" --compare "$td.png" --json
+same "$(json '[has("frame", "frames", "frame_delay"), (.comparison | has("frame"))]')" '[false,false,false,false]' 'no frames on TFT'
 
 # ---- test cards
 
