@@ -164,6 +164,12 @@ static void check_equal(const struct panel *p, const char *what) {
     }
 }
 
+static void keep_fastest(double *best, const double *t, int n) {
+    for (int k = 0; k < n; k++)
+        if (t[k] < best[k])
+            best[k] = t[k];
+}
+
 static void measure(const struct panel *p, double best[3]) {
     memset(ours, 0, sizeof *ours * p->width * p->height);
     their_picture(p), our_picture(p), check_equal(p, "picture");
@@ -172,9 +178,7 @@ static void measure(const struct panel *p, double best[3]) {
     best[0] = best[1] = best[2] = 1e9;
     for (int i = 0; i < ROUNDS; i++) {
         double t[3] = {once(their_picture, p), once(our_picture, p), once(our_rows, p)};
-        for (int k = 0; k < 3; k++)
-            if (t[k] < best[k])
-                best[k] = t[k];
+        keep_fastest(best, t, 3);
     }
     for (int k = 0; k < 3; k++)
         best[k] *= 1e9 / (p->width * p->height);
@@ -278,23 +282,22 @@ static void measure_stn(const struct panel *p, double best[2]) {
             printf("%s, frame %u: the pictures differ\n", p->stn->name, frame_number);
             exit(1);
         }
-        for (int k = 0; k < 2; k++)
-            if (t[k] < best[k])
-                best[k] = t[k];
+        keep_fastest(best, t, 2);
     }
 }
 
+static void stn_row(const struct stn_mode *m, unsigned width, unsigned height) {
+    struct panel p;
+    double best[2], each = 1e9 / (width * height);
+    describe_stn(&p, m, width, height);
+    measure_stn(&p, best);
+    printf("| %s | %.3f | %.3f | %.2f |\n", m->name, best[0] * each, best[1] * each, best[1] / best[0]);
+}
+
 static void stn_table(unsigned width, unsigned height) {
-    size_t n = sizeof stn_modes / sizeof *stn_modes;
     printf("\n%u by %u, STN, ns a pixel\n\n| mode | C | picture | ratio |\n|---|---|---|---|\n", width, height);
-    for (size_t i = 0; i < n; i++) {
-        struct panel p;
-        double best[2];
-        describe_stn(&p, &stn_modes[i], width, height);
-        measure_stn(&p, best);
-        printf("| %s | %.3f | %.3f | %.2f |\n", stn_modes[i].name, best[0] * 1e9 / (width * height),
-               best[1] * 1e9 / (width * height), best[1] / best[0]);
-    }
+    for (size_t i = 0; i < sizeof stn_modes / sizeof *stn_modes; i++)
+        stn_row(&stn_modes[i], width, height);
 }
 
 /* ---- the scanout, with the porches of T8 (docs/REFERENCE.md, §13.1) */

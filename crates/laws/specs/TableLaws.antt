@@ -22,7 +22,8 @@ entry-passes p (x ∷ xs) t zero h = and-left (p x) (every p xs) t
 entry-passes p (x ∷ xs) t (suc k) h = entry-passes p xs (and-right (p x) (every p xs) t) k (le-of-suc-le-suc h)
 
 -- and at every place, where it passes at the entry that stands for those past the end
-pub every-place-passes : {A : Type 0} (p : A → Bool) (xs : List A) → T (every p xs) → (d : A) → T (p d) → (k : ℕ) → T (p (getD xs k d))
+pub every-place-passes : {A : Type 0} (p : A → Bool) (xs : List A) → T (every p xs) → (d : A) → T (p d) → (k : ℕ)
+    → T (p (getD xs k d))
 every-place-passes p [] t d u k = u
 every-place-passes p (x ∷ xs) t d u zero = and-left (p x) (every p xs) t
 every-place-passes p (x ∷ xs) t d u (suc k) = every-place-passes p xs (and-right (p x) (every p xs) t) d u k

@@ -1,5 +1,6 @@
 -- Refusals 2 to 7, 9 and 17 (§9.1; the rules of 3 to 7 are in §2.2, §2.3, §4.4, §3.4 and §3.5), and the judgement by 1 to 7 (§9.2), for
--- the kind of panel that a call takes (§9.3): TFT, STN, or either. 9 and 17 are judged elsewhere. Promises cite it, so a reader must believe it.
+-- the kind of panel that a call takes (§9.3): TFT, STN, or either. 9 and 17 are judged elsewhere. Promises cite it, so a reader must
+-- believe it.
 use mathlib.Core.Bool.{Bool, not, cond, _&&_, _||_}
 use mathlib.Core.List.{List, [], _∷_}
 use Prim.Native.Nat.{ℕ, _+_, _-_, _*_, _%_, _^_}

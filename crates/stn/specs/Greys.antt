@@ -39,7 +39,8 @@ unfoldable pub packed : (ℕ → Bool) → ℕ → ℕ
 packed g zero = 0
 packed g (suc n) = packed g n * 2 + bit (g n)
 
--- byte j of a row that begins with the memory's word `base`: columns 8j to 8j + 7 (§5.10). The phase is that of column 0
+-- byte j of a row that begins with the memory's word `base`: columns 8j to 8j + 7 (§5.10). The phase is that of column 0; HWSWP is legal
+-- in no STN mode (§4.4), so BSWP alone is applied
 unfoldable pub rowByte : ℕ → Bool → List ℕ → ℕ → ℕ → ℕ → ℕ
 rowByte bits bswp memory base phase j =
     packed (λ k. litBits bits (storedPixel bits bswp false memory base (8 * j + k)) (phase + (8 * j + k))) 8

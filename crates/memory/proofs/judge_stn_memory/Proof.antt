@@ -1,11 +1,9 @@
--- `memory::judge_stn_memory` meets its contract: 1 to 7, and then 8.
-use mathlib.Core.List.{[], _∷_}
+-- `memory::judge_stn_memory` meets its contract.
 use mathlib.Core.Path.{sym, _∙_}
-use Rattle.laws.specs.Cases.{_when_}
-use Rattle.laws.specs.CaseLaws.{further}
-use Rattle.panel.specs.Refusals.{stnCases, judgeStn}
+use Rattle.panel.specs.Refusals.{notStn, judgeStn}
 use Rattle.panel.proofs.Accepted.{either-of-stn}
-use Rattle.memory.specs.Memory.{outsideMemory, judgeStnMemory}
+use Rattle.memory.specs.Memory.{judgeStnMemory}
+use Rattle.memory.proofs.Judgement.{and-8}
 use Rattle.memory.proofs.judge_stn_memory.Statement.{statement}
 use Rattle.memory.proofs.judge_stn_memory.Tie as tie
 
@@ -16,9 +14,7 @@ returns : tie.Need-returns
 unfolding judgeStnMemory judgeStn
 returns c =
     let a = c .before .before .args in
-    c .and-outside .ensures
-    ∙ further (c .before .judge-stn .result) 7 (stnCases (a .s .words)) (8 when outsideMemory (a .s) (a .lent) ∷ []) tt tt
-    (c .before .judge-stn .ensures)
+    and-8 (notStn (a .s .words)) (a .s) (a .lent) (c .before .judge-stn .ensures) (c .and-outside .ensures)
 
 pub judge-stn-memory-spec : {M : Type 1} → statement M
 judge-stn-memory-spec = tie.close (tie.spec (λ c κs. tt) and-outside-requires returns)
