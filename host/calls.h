@@ -17,7 +17,8 @@
 
 #define CALLS(CALL, READ, WRITE, VALUE)                                                                                            \
     CALL(check, 1, UP_TO(8) | NUMBER(10) | NUMBER(17), READ(WORDS), VALUE(WINDOW_START), READ(VIDEO))                              \
-    CALL(counts, 1, UP_TO(7) | NUMBER(10) | NUMBER(17), READ(TIMED_WORDS), VALUE(HCLK), WRITE(COUNTS))                             \
+    CALL(counts, 1, UP_TO(7) | NUMBER(10) | NUMBER(17) | NUMBER(27), READ(TIMED_WORDS), VALUE(EDITION), VALUE(HCLK),               \
+         WRITE(COUNTS))                                                                                                            \
     CALL(draw_pixel, 1, UP_TO(11), READ(WORDS), VALUE(WINDOW_START), READ(VIDEO), READ(PALETTE), VALUE(ROW), VALUE(COLUMN),        \
          WRITE(PIXEL_COLOUR))                                                                                                      \
     CALL(draw_row, 1, UP_TO(11), READ(WORDS), VALUE(WINDOW_START), READ(VIDEO), READ(PALETTE), VALUE(ROW), WRITE(ROW_COLOURS))     \

@@ -32,6 +32,23 @@ static void prefill(uint32_t *entries, size_t n) {
         entries[i] = UNTOUCHED;
 }
 
+/* A frame's counts by a rule edition; the entry past them stays. */
+static void counted(const char *what, const uint32_t *words, uint32_t edition, uint32_t hclk, const uint64_t *due) {
+    uint64_t counts[4] = {UNTOUCHED, UNTOUCHED, UNTOUCHED, UNTOUCHED};
+    same(what, lcd_counts(words, 9, edition, hclk, counts, 4), 0);
+    for (int i = 0; i < 3; i++)
+        same(what, counts[i], due[i]);
+    same(what, counts[3], UNTOUCHED);
+}
+
+/* Counts that are refused; the entries stay. */
+static void not_counted(const char *what, const uint32_t *words, uint32_t edition, uint32_t number) {
+    uint64_t counts[3] = {UNTOUCHED, UNTOUCHED, UNTOUCHED};
+    same(what, lcd_counts(words, 9, edition, 60000000, counts, 3), number);
+    for (int i = 0; i < 3; i++)
+        same(what, counts[i], UNTOUCHED);
+}
+
 /* ---- T1: a panel 1 by 2, 24 bits a pixel; its output is the bench's */
 
 static const uint32_t t1_words[9] = {0x7b, 0x4000, 0, 0, 0, 0x18000000, 4, 2, 0};
@@ -41,7 +58,7 @@ static const char t1_output[] = "clocks 20 hclk 40 mhz 25000\n112233\naabbcc\n";
 /* The bench's text (§11.2), from the counts and from each row drawn by itself. */
 static void t1_rows(char *text, size_t size) {
     uint64_t counts[3];
-    same("T1, counts", lcd_counts(t1_words, 9, 1000, counts, 3), 0);
+    same("T1, counts", lcd_counts(t1_words, 9, 1, 1000, counts, 3), 0);
     int n = snprintf(text, size, "clocks %" PRIu64 " hclk %" PRIu64 " mhz %" PRIu64 "\n", counts[0], counts[1], counts[2]);
     for (uint32_t row = 0; row < 2; row++) {
         uint32_t out[2] = {UNTOUCHED, UNTOUCHED};
@@ -71,6 +88,15 @@ static void t1_pixels(void) {
     same("T1, row outside", lcd_draw_pixel(t1_words, 9, START, t1_video, 2, palette, 256, 2, 0, &out, 1), 11);
     same("T1, row outside, no entry", lcd_draw_pixel(t1_words, 9, START, t1_video, 2, palette, 256, 2, 0, &out, 0), 10);
     untouched("T1, entry of a refused pixel", &out, 1);
+}
+
+/* A TFT panel has no pulses, so its counts do not depend on the rule edition, but there must be such an edition. */
+static void t1_editions(void) {
+    static const uint64_t due[3] = {20, 40, 25000};
+    counted("T1, edition 1", t1_words, 1, 1000, due);
+    counted("T1, edition 2", t1_words, 2, 1000, due);
+    not_counted("T1, edition 3", t1_words, 3, 27);
+    puts("T1: the same counts by rule editions 1 and 2, and 27 for 3");
 }
 
 static void t1(void) {
@@ -300,18 +326,27 @@ static void stn_refusals(void) {
     puts("STN: CLKVAL 1 gives 17, the other kind of panel 2, and nothing lent is changed");
 }
 
+/* 320 by 240 in 16 greys, CLKVAL 8, WLH 2, WDLY 1, LINEBLANK 10: a line of 640 + 64 + 32 + 80 ticks by rule edition 1, where the pulse of
+ * WLH 2 is 2^6, and of 640 + 48 + 32 + 80 by 2, where it is 16 x 3. */
 static void stn_counts(void) {
     static const uint32_t words[9] = {0x845, 0x3bc000, 0x8270a, 0xd02, 0, 0x18000000, 0x4b00, 0x50, 0};
-    uint64_t counts[3];
-    same("STN, counts", lcd_counts(words, 9, 60000000, counts, 3), 0);
-    same("STN, clocks", counts[0], 9600);
-    same("STN, ticks", counts[1], 195840);
-    same("STN, millihertz", counts[2], 306372);
-    puts("STN: 816 ticks a line, 306.372 Hz at 60 MHz");
+    static const uint64_t first[3] = {9600, 195840, 306372}, second[3] = {9600, 192000, 312500};
+    uint32_t fast[9];
+    memcpy(fast, words, sizeof fast);
+    fast[0] = 0x145;
+    counted("STN, edition 1", words, 1, 60000000, first);
+    puts("STN: 816 ticks a line by rule edition 1, 306.372 Hz at 60 MHz");
+    counted("STN, edition 2", words, 2, 60000000, second);
+    puts("STN: 800 ticks a line by rule edition 2, 312.500 Hz at 60 MHz");
+    not_counted("STN, edition 0", words, 0, 27);
+    not_counted("STN, edition 3", words, 3, 27);
+    not_counted("STN, edition 3, CLKVAL 1", fast, 3, 17);
+    puts("STN: rule editions 0 and 3 give 27, with CLKVAL 1 17, and nothing lent is changed");
 }
 
 int main(void) {
     t1();
+    t1_editions();
     t1_steps();
     t1_runs();
     t1_viewport();

@@ -302,6 +302,18 @@ static void pick_frame(struct inputs *in, enum kind kind) {
         in->numbers[kind] = (uint32_t)random64();
 }
 
+/* A rule edition: mostly 1 or 2; else a number beside them, one of them with a higher bit set too, or any. */
+static void pick_edition(struct inputs *in, enum kind kind) {
+    static const uint32_t beside[] = {0, 3, UINT32_MAX};
+    uint64_t way = below(16), edition = 1 + below(2), higher_bit = (uint64_t)1 << (2 + below(30));
+    if (way < 10)
+        in->numbers[kind] = edition;
+    else if (way < 13)
+        in->numbers[kind] = beside[way - 10];
+    else
+        in->numbers[kind] = way < 15 ? edition + higher_bit : (uint32_t)random64();
+}
+
 static void pick_hclk(struct inputs *in, enum kind kind) {
     static const uint32_t typical[] = {0, 1, UINT32_MAX, 100000000, 60000000, 50000000};
     uint64_t way = below(8);
@@ -349,6 +361,7 @@ static const struct {
     [WORDS_WRITTEN] = {.name = "words", .entries = LCD_REGISTERS, .bytes = 4},
     [SIZES] = {.name = "sizes", .entries = LCD_SIZES, .bytes = 4},
     [WINDOW_START] = {.name = "window_start"},
+    [EDITION] = {.name = "edition", .make = pick_edition},
     [HCLK] = {.name = "hclk", .make = pick_hclk},
     [ROW] = {.name = "row", .make = pick_row},
     [COLUMN] = {.name = "column", .make = pick_column},

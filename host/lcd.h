@@ -29,9 +29,9 @@ extern "C" {
 #endif
 
 /* The version of this interface: the first number grows when a call changes, the second when something is added. */
-#define LCD_VERSION_MAJOR 2
-#define LCD_VERSION_MINOR 1
-#define LCD_VERSION "2.1"
+#define LCD_VERSION_MAJOR 3
+#define LCD_VERSION_MINOR 0
+#define LCD_VERSION "3.0"
 
 /* How many words and how many palette entries there are. */
 enum { LCD_REGISTERS = 9, LCD_PALETTE_ENTRIES = 256 };
@@ -54,7 +54,8 @@ enum { LCD_REGISTERS = 9, LCD_PALETTE_ENTRIES = 256 };
     R(13, "LCDBANK of the pending viewport, or of the new one, differs from that in force")                                        \
     R(14, "the input has under 556 bytes, or its video memory is no multiple of 4 bytes, or more than the program takes")         \
     R(15, "the position is not below the frame's clocks")                                                                          \
-    R(17, "CLKVAL is below 2 on an STN panel")
+    R(17, "CLKVAL is below 2 on an STN panel")                                                                                     \
+    R(27, "the rule edition is neither 1 nor 2")
 
 /* The text of a number of refusal. 0 and numbers that are no refusal have a text too, so the result can always be printed. It is in
  * lcd_refusals.c, to be compiled with the program; the archive does not have it. */
@@ -65,9 +66,11 @@ const char *lcd_refusal_text(uint32_t number);
 uint32_t lcd_check(const uint32_t *words, size_t words_len, uint32_t window_start, const uint32_t *video, size_t video_len);
 
 /* Writes a frame's length and rate (§6.3, §6.4, §6.8) to the first three entries of `counts`: clocks; HCLK ticks; the frame rate in
- * millihertz at an HCLK of `hclk` Hz, rounded down. Further entries stay.
- * Refuses 10 (fewer than nine words), then 1 to 7, then 10 (`counts` has fewer than three entries), 17. */
-uint32_t lcd_counts(const uint32_t *words, size_t words_len, uint32_t hclk, uint64_t *counts, size_t counts_len);
+ * millihertz at an HCLK of `hclk` Hz, rounded down. Further entries stay. `edition` is the rule edition for an STN panel's pulses: 1
+ * for 2^(4+n) ticks, 2 for the 16 x (n+1) of later boards (n is WLH or WDLY). A TFT panel's counts are the same by both.
+ * Refuses 10 (fewer than nine words), then 1 to 7, then 10 (`counts` has fewer than three entries), 17, 27. */
+uint32_t lcd_counts(const uint32_t *words, size_t words_len, uint32_t edition, uint32_t hclk, uint64_t *counts,
+                    size_t counts_len);
 
 /* Draws the pixel in row `row` and column `column`, both counted from 0, to the first entry of `out` (§5.6): a colour 0xRRGGBB,
  * VD23..VD0 before INVVD. Further entries stay.

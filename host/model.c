@@ -147,6 +147,11 @@ static bool clkval_is_too_low(const uint32_t *words) {
     return is_stn(words) && field(words, LCD_CLKVAL) < 2;
 }
 
+/* 27 (§9.1): there is no such rule edition, whatever the panel */
+static bool edition_is_unknown(uint32_t edition) {
+    return edition != 1 && edition != 2;
+}
+
 static bool applies(uint32_t number, enum panels panels, const uint32_t *words, const struct memory *memory) {
     switch (number) {
     case 1: return a_reserved_bit_is_set(words);
@@ -191,7 +196,8 @@ uint32_t model_check(const uint32_t *words, size_t words_len, uint32_t window_st
     return number == 0 && clkval_is_too_low(words) ? 17 : number;
 }
 
-uint32_t model_counts(const uint32_t *words, size_t words_len, uint32_t hclk, uint64_t *counts, size_t counts_len) {
+uint32_t model_counts(const uint32_t *words, size_t words_len, uint32_t edition, uint32_t hclk, uint64_t *counts,
+                      size_t counts_len) {
     uint32_t number = lowest_of_slice(7, EITHER, words, words_len, NULL);
     if (number != 0)
         return number;
@@ -199,9 +205,11 @@ uint32_t model_counts(const uint32_t *words, size_t words_len, uint32_t hclk, ui
         return 10;
     if (clkval_is_too_low(words))
         return 17;
+    if (edition_is_unknown(edition))
+        return 27;
     counts[0] = frame_clocks(words);
-    counts[1] = frame_ticks(words);
-    counts[2] = rate(words, hclk);
+    counts[1] = frame_ticks(words, edition);
+    counts[2] = rate(words, edition, hclk);
     return 0;
 }
 

@@ -193,26 +193,29 @@ uint64_t clock_ticks(const uint32_t *words) {
     return is_stn(words) ? 2 * field(words, LCD_CLKVAL) : 2 * (field(words, LCD_CLKVAL) + 1);
 }
 
-/* Ticks of WLH's and WDLY's pulse (§6.8). */
-static uint64_t pulse(uint64_t n) {
-    return (uint64_t)1 << (4 + n);
+/* Ticks of WLH's and WDLY's pulse by rule edition 1, and by 2 (§6.8). */
+static uint64_t pulse(uint32_t edition, uint64_t n) {
+    if (edition == 1)
+        return (uint64_t)1 << (4 + n);
+    return 16 * (n + 1);
 }
 
 /* After its clocks an STN line takes two pulses and LINEBLANK times eight ticks (§6.8). */
-static uint64_t line_ticks(const uint32_t *words) {
+static uint64_t line_ticks(const uint32_t *words, uint32_t edition) {
     uint64_t clocks = clock_ticks(words) * line_length(words);
     if (!is_stn(words))
         return clocks;
-    return clocks + pulse(field(words, MODEL_WLH)) + pulse(field(words, MODEL_WDLY)) + 8 * field(words, MODEL_LINEBLANK);
+    uint64_t pulses = pulse(edition, field(words, MODEL_WLH)) + pulse(edition, field(words, MODEL_WDLY));
+    return clocks + pulses + 8 * field(words, MODEL_LINEBLANK);
 }
 
-uint64_t frame_ticks(const uint32_t *words) {
-    return frame_height(words) * line_ticks(words);
+uint64_t frame_ticks(const uint32_t *words, uint32_t edition) {
+    return frame_height(words) * line_ticks(words, edition);
 }
 
 /* One division, rounded down once (§6.4). The product is exact: below 2^42. */
-uint64_t rate(const uint32_t *words, uint64_t hclk) {
-    return hclk * 1000 / frame_ticks(words);
+uint64_t rate(const uint32_t *words, uint32_t edition, uint64_t hclk) {
+    return hclk * 1000 / frame_ticks(words, edition);
 }
 
 /* Sync is first in a line and in a frame, then back porch, active part and front porch (§6.5). VSYNC marks the sync lines, HSYNC the

@@ -50,12 +50,13 @@ bool is_lit(const uint32_t *words, const struct memory *memory, uint64_t frame, 
 /* In HCLK ticks (§6.3, §6.8). */
 uint64_t clock_ticks(const uint32_t *words);
 
-/* In clocks (§6.1), in lines (§6.2), in clocks and in HCLK ticks (§6.3), in millihertz (§6.4); all of an STN panel by §6.8. */
+/* In clocks (§6.1), in lines (§6.2), in clocks and in HCLK ticks (§6.3), in millihertz (§6.4); all of an STN panel by §6.8, where ticks
+ * and rate follow the rule edition, 1 or 2. */
 uint64_t line_length(const uint32_t *words);
 uint64_t frame_height(const uint32_t *words);
 uint64_t frame_clocks(const uint32_t *words);
-uint64_t frame_ticks(const uint32_t *words);
-uint64_t rate(const uint32_t *words, uint64_t hclk);
+uint64_t frame_ticks(const uint32_t *words, uint32_t edition);
+uint64_t rate(const uint32_t *words, uint32_t edition, uint64_t hclk);
 
 /* What one clock shows before the INV bits invert it: which signals are active, and the pixel where VDEN is. */
 struct clock {

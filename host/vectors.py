@@ -189,13 +189,18 @@ def colours(lent):
 
 # ---- what is due of a call: the refusal, or 0 and the values
 
-def frame(lent):
-    """A frame's clocks and ticks (§6.3, of an STN panel §6.8)."""
+def pulse(edition, n):
+    """Ticks of an STN panel's pulse, by the rule edition."""
+    return {1: 2**(4 + n), 2: 16 * (n + 1)}[edition]
+
+
+def frame(lent, edition=1):
+    """A frame's clocks and ticks (§6.3, of an STN panel §6.8). All vectors are of rule edition 1."""
     f = fields(lent.words)
     if f["PNRMODE"] == 2:
         f = fields(lent.words, STN_SPANS)
         c, l = f["HOZVAL"] + 1, f["LINEVAL"] + 1
-        return l * c, l * (2 * f["CLKVAL"] * c + 2**(4 + f["WLH"]) + 2**(4 + f["WDLY"]) + 8 * f["LINEBLANK"])
+        return l * c, l * (2 * f["CLKVAL"] * c + pulse(edition, f["WLH"]) + pulse(edition, f["WDLY"]) + 8 * f["LINEBLANK"])
     c = (f["HSPW"] + 1) + (f["HBPD"] + 1) + (f["HOZVAL"] + 1) + (f["HFPD"] + 1)
     l = (f["VSPW"] + 1) + (f["VBPD"] + 1) + (f["LINEVAL"] + 1) + (f["VFPD"] + 1)
     return l * c, 2 * (f["CLKVAL"] + 1) * l * c

@@ -12,14 +12,15 @@ void account_counts(const struct readings *r) {
     const struct dump *d = r->dump;
     uint64_t counts[3] = {0};
     char frame[MEANING], clock[MEANING];
-    lcd_counts(d->words, LCD_REGISTERS, d->hclk, counts, 3);
+    bool stn = is_stn(d->words);
+    lcd_counts(d->words, LCD_REGISTERS, d->edition, d->hclk, counts, 3);
     say("clocks %" PRIu64 " hclk %" PRIu64 " mhz %" PRIu64 "\n", counts[0], counts[1], counts[2]);
     rate_text(counts[2], frame);
     rate_text(millihertz_of(d->hclk, r->sizes[LCD_SIZE_TICKS]), clock);
     if (d->hclk)
-        say("%s, %s %s\n", frame, clock, is_stn(d->words) ? "clock of 8 pixels" : "pixel clock");
+        say("%s%s, %s %s\n", frame, by_edition(d), clock, stn ? "clock of 8 pixels" : "pixel clock");
     else
-        say("no rate: HCLK is %s\n", d->no_hclk ? "not given" : "0");
+        say("no rate: HCLK is %s%s%s\n", d->no_hclk ? "not given" : "0", stn ? "; ticks" : "", by_edition(d));
 }
 
 const char *account_glass(const struct readings *r) {
@@ -116,24 +117,28 @@ static void say_parts(const char *name, const uint32_t *s, const char *one, cons
 /* An STN line's clocks and pauses, and its frame, in HCLK ticks. */
 static void say_ticks(const struct readings *r) {
     uint32_t clocks = r->sizes[LCD_SIZE_LINE], lines = r->sizes[LCD_SIZE_FRAME], all = lines * clocks;
-    struct stn_pauses ticks = stn_pauses_of(r);
-    say("line        %" PRIu64 " ticks: %" PRIu32 " clock%s of %" PRIu32, line_ticks(r), clocks, clocks == 1 ? "" : "s",
+    uint64_t line = line_ticks(r, r->dump->edition);
+    struct stn_pauses ticks = stn_pauses_of(r, r->dump->edition);
+    say("line        %" PRIu64 " ticks: %" PRIu32 " clock%s of %" PRIu32, line, clocks, clocks == 1 ? "" : "s",
         r->sizes[LCD_SIZE_TICKS]);
     say(", VLINE %" PRIu64 ", delay %" PRIu64 ", blank %" PRIu64 "\n", ticks.vline, ticks.delay, ticks.blank);
     say("frame       %" PRIu32 " line%s: %" PRIu32 " clock%s, %" PRIu64 " ticks\n", lines, lines == 1 ? "" : "s", all,
-        all == 1 ? "" : "s", lines * line_ticks(r));
+        all == 1 ? "" : "s", lines * line);
 }
 
-/* How long an STN line takes, in time. */
-static void say_line_time(const struct readings *r) {
+/* How long an STN line of so many ticks takes. */
+static void line_time_text(uint32_t hclk, uint64_t ticks, char *to) { time_text(ticks * 1000000000 / hclk, to); }
+
+static void say_line_time(uint32_t hclk, uint64_t ticks) {
     char time[MEANING];
-    time_text(line_ticks(r) * 1000000000 / r->dump->hclk, time);
+    line_time_text(hclk, ticks, time);
     say("line time   %s\n", time);
 }
 
 /* On STN there is no clock where CLKVAL is 0, and so there are no lines and frames. */
 static void say_rates(const struct readings *r) {
     uint32_t hclk = r->dump->hclk, ticks = r->sizes[LCD_SIZE_TICKS];
+    uint64_t line = line_ticks(r, r->dump->edition);
     if (!hclk) {
         say("HCLK        %s, no rates\n", r->dump->no_hclk ? "not given" : "0 Hz");
         return;
@@ -143,10 +148,56 @@ static void say_rates(const struct readings *r) {
         return;
     say_rate("VCLK", hclk, ticks);
     if (is_stn(r->dump->words))
-        say_line_time(r);
-    say_rate("line rate", hclk, line_ticks(r));
-    say_rate("frame rate", hclk, line_ticks(r) * r->sizes[LCD_SIZE_FRAME]);
+        say_line_time(hclk, line);
+    say_rate("line rate", hclk, line);
+    say_rate("frame rate", hclk, line * r->sizes[LCD_SIZE_FRAME]);
 }
+
+/* ---- both rule editions of an STN panel, side by side: the one of the account first */
+
+static void say_both(const char *name, const char *here, const char *other) { say("  %-11s %-17s %s\n", name, here, other); }
+
+static void say_both_ticks(const char *name, uint64_t here, uint64_t other) {
+    char texts[2][MEANING];
+    snprintf(texts[0], MEANING, "%" PRIu64 " ticks", here);
+    snprintf(texts[1], MEANING, "%" PRIu64 " ticks", other);
+    say_both(name, texts[0], texts[1]);
+}
+
+/* By the ticks of a line. */
+static void say_both_rates(const struct readings *r, uint64_t here, uint64_t other) {
+    uint32_t hclk = r->dump->hclk, lines = r->sizes[LCD_SIZE_FRAME];
+    char texts[2][MEANING];
+    line_time_text(hclk, here, texts[0]);
+    line_time_text(hclk, other, texts[1]);
+    say_both("line time", texts[0], texts[1]);
+    rate_text(millihertz_of(hclk, here), texts[0]);
+    rate_text(millihertz_of(hclk, other), texts[1]);
+    say_both("line rate", texts[0], texts[1]);
+    rate_text(millihertz_of(hclk, lines * here), texts[0]);
+    rate_text(millihertz_of(hclk, lines * other), texts[1]);
+    say_both("frame rate", texts[0], texts[1]);
+}
+
+/* Where the library gives the same by both, one account will do. */
+static void say_editions(const struct readings *r) {
+    uint32_t edition = r->dump->edition, beside = 3 - edition, lines = r->sizes[LCD_SIZE_FRAME];
+    struct stn_pauses here = stn_pauses_of(r, edition), other = stn_pauses_of(r, beside);
+    uint64_t line = line_ticks(r, edition), other_line = line_ticks(r, beside);
+    if (here.vline == other.vline && here.delay == other.delay && line == other_line) {
+        say("rule edition  %" PRIu32 "; %" PRIu32 " gives the same\n", edition, beside);
+        return;
+    }
+    say("rule edition  %" PRIu32 ", as above       %" PRIu32 "\n", edition, beside);
+    say_both_ticks("VLINE", here.vline, other.vline);
+    say_both_ticks("delay", here.delay, other.delay);
+    say_both_ticks("line", line, other_line);
+    say_both_ticks("frame", lines * line, lines * other_line);
+    if (r->dump->hclk && r->sizes[LCD_SIZE_TICKS])
+        say_both_rates(r, line, other_line);
+}
+
+/* ---- all of the panel */
 
 /* What the words say together: size, mode, the parts of line and frame, rates. */
 static void say_panel(const struct readings *r) {
@@ -163,6 +214,8 @@ static void say_panel(const struct readings *r) {
         say_parts("frame", s, "line", "lines", LCD_SIZE_FRAME, LCD_SIZE_VSYNC, LCD_SIZE_HEIGHT);
     }
     say_rates(r);
+    if (stn)
+        say_editions(r);
 }
 
 void account_needed(const struct dump *d) {

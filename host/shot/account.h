@@ -23,7 +23,8 @@ void account_refusal(const struct faults *f);
 /* The number of the refusal, and every fault with its arithmetic and its cures. */
 void account_faults(const struct faults *f);
 
-/* Every field by register and name with its meaning, for refused words too, and a mark at each that lifts a fault. */
+/* Every field by register and name with its meaning, for refused words too, and a mark at each that lifts a fault. Of an STN panel the
+ * lengths and rates by the dump's rule edition, and where they differ by both. */
 void account_registers(const struct readings *r, const struct faults *f);
 
 /* A cure's changes: "PAGEWIDTH 240 and LCDBASEL 0". */

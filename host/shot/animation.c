@@ -13,7 +13,7 @@ struct delay animation_delay(const struct dump *d) {
     uint64_t counts[3] = {0}, ticks, hclk = d->hclk, over = 1, under = 0, last_over = 0, last_under = 1;
     if (!hclk)
         return (struct delay){1, 60};
-    lcd_counts(d->words, LCD_REGISTERS, d->hclk, counts, 3);
+    lcd_counts(d->words, LCD_REGISTERS, d->edition, d->hclk, counts, 3);
     ticks = counts[1];
     while (hclk) {
         uint64_t whole = ticks / hclk, rest = ticks % hclk;

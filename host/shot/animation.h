@@ -10,8 +10,8 @@ struct delay {
     uint16_t over, under;
 };
 
-/* The frame's ticks over HCLK, or where 16 bits don't hold them, a fraction very near; 1/60 where there is no HCLK. The words must be
- * accepted. */
+/* The frame's ticks by the dump's rule edition over HCLK, or where 16 bits don't hold them, a fraction very near; 1/60 where there is
+ * no HCLK. The words must be accepted. */
 struct delay animation_delay(const struct dump *d);
 
 /* Writes `count` frames from number `first` on, of 1 bit a pixel, white where it is lit. They are shown over and over; a program

@@ -14,7 +14,7 @@ uint32_t judge(const struct dump *d, const uint32_t *words) {
     uint64_t counts[3];
     uint32_t colour;
     if (d->source == WORDS_ALONE)
-        return lcd_counts(words, LCD_REGISTERS, 0, counts, 3);
+        return lcd_counts(words, LCD_REGISTERS, d->edition, 0, counts, 3);
     if (is_stn(words))
         return judge_stn(d, words);
     return lcd_draw_pixel(words, LCD_REGISTERS, d->window_start, d->video, d->video_len, d->palette, LCD_PALETTE_ENTRIES, 0, 0,

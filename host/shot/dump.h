@@ -18,6 +18,7 @@ struct dump {
     bool one_frame; /* whether an STN panel is drawn as the bits of `frame`; else as the eye sees it */
     uint32_t frame;
     uint32_t frames; /* how many from `frame` on are written as an animation; 0 where none is asked for */
+    uint32_t edition; /* the rule edition, 1 or 2, by which an STN panel's ticks and rate are told */
 };
 
 /* Takes a dump apart. Returns 0, or 14 if it has fewer than 556 bytes or its video memory is no multiple of 4 bytes. */

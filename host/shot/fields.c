@@ -205,30 +205,34 @@ static bool reads_stn(const struct readings *r) { return r->fields[LCD_PNRMODE] 
 
 /* ---- HCLK ticks */
 
-/* The ticks beside the clocks of an STN line with these numbers: the library is asked for a panel of one line and one clock, and
- * the clock's ticks are taken off. */
-static uint64_t pauses(uint32_t wlh, uint32_t wdly, uint32_t lineblank) {
+/* The ticks beside the clocks of an STN line with these numbers, by a rule edition: the library is asked for a panel of one line and
+ * one clock, and the clock's ticks are taken off. */
+static uint64_t pauses(uint32_t edition, uint32_t wlh, uint32_t wdly, uint32_t lineblank) {
     uint32_t fields[LCD_FIELDS] = {[LCD_PNRMODE] = PANEL_STN, [LCD_BPPMODE] = 2, [LCD_CLKVAL] = 2, [LCD_PAGEWIDTH] = 2,
                                    [LCD_LCDBASEL] = 2, [LCD_WLH] = wlh, [LCD_WDLY] = wdly, [LCD_LINEBLANK] = lineblank};
     uint32_t words[LCD_REGISTERS] = {0}, sizes[LCD_SIZES] = {0};
     uint64_t counts[3] = {0};
     lcd_write_fields(fields, LCD_FIELDS, words, LCD_REGISTERS);
     lcd_read_sizes(words, LCD_REGISTERS, sizes, LCD_SIZES);
-    lcd_counts(words, LCD_REGISTERS, 0, counts, 3);
+    lcd_counts(words, LCD_REGISTERS, edition, 0, counts, 3);
     return counts[1] - sizes[LCD_SIZE_TICKS];
 }
 
 /* WLH and WDLY give the same ticks where they have the same number. */
-struct stn_pauses stn_pauses_of(const struct readings *r) {
+struct stn_pauses stn_pauses_of(const struct readings *r, uint32_t edition) {
     uint32_t wlh = r->fields[LCD_WLH], wdly = r->fields[LCD_WDLY];
-    return (struct stn_pauses){.vline = pauses(wlh, wlh, 0) / 2,
-                               .delay = pauses(wdly, wdly, 0) / 2,
-                               .blank = pauses(0, 0, r->fields[LCD_LINEBLANK]) - pauses(0, 0, 0)};
+    return (struct stn_pauses){.vline = pauses(edition, wlh, wlh, 0) / 2,
+                               .delay = pauses(edition, wdly, wdly, 0) / 2,
+                               .blank = pauses(edition, 0, 0, r->fields[LCD_LINEBLANK]) - pauses(edition, 0, 0, 0)};
 }
 
-uint64_t line_ticks(const struct readings *r) {
+uint64_t line_ticks(const struct readings *r, uint32_t edition) {
     uint64_t clocks = (uint64_t)r->sizes[LCD_SIZE_TICKS] * r->sizes[LCD_SIZE_LINE];
-    return clocks + (reads_stn(r) ? pauses(r->fields[LCD_WLH], r->fields[LCD_WDLY], r->fields[LCD_LINEBLANK]) : 0);
+    return clocks + (reads_stn(r) ? pauses(edition, r->fields[LCD_WLH], r->fields[LCD_WDLY], r->fields[LCD_LINEBLANK]) : 0);
+}
+
+const char *by_edition(const struct dump *d) {
+    return !is_stn(d->words) ? "" : d->edition == 1 ? " by rule edition 1" : " by rule edition 2";
 }
 
 /* ---- meanings */
@@ -280,7 +284,7 @@ static void special_meaning(const struct readings *r, int field, char *to) {
 
 /* The meaning of the fields that an STN panel has alone, or in another sense, or not at all; false where it is TFT's. */
 static bool stn_meaning(const struct readings *r, int field, char *to) {
-    struct stn_pauses ticks = stn_pauses_of(r);
+    struct stn_pauses ticks = stn_pauses_of(r, r->dump->edition);
     uint32_t n = r->fields[field], clocks = r->sizes[LCD_SIZE_LINE];
     switch (field) {
     case LCD_MMODE: snprintf(to, MEANING, "VM toggles %s", n ? "by MVAL" : "each frame"); break;
@@ -289,8 +293,8 @@ static bool stn_meaning(const struct readings *r, int field, char *to) {
         snprintf(to, MEANING, "%" PRIu32 " pixels a row, the width: %" PRIu32 " clock%s of 8", r->sizes[LCD_SIZE_WIDTH], clocks,
                  clocks == 1 ? "" : "s");
         break;
-    case LCD_WLH: snprintf(to, MEANING, "%" PRIu64 " ticks of VLINE", ticks.vline); break;
-    case LCD_WDLY: snprintf(to, MEANING, "%" PRIu64 " ticks from VLINE to VCLK", ticks.delay); break;
+    case LCD_WLH: snprintf(to, MEANING, "%" PRIu64 " ticks of VLINE%s", ticks.vline, by_edition(r->dump)); break;
+    case LCD_WDLY: snprintf(to, MEANING, "%" PRIu64 " ticks from VLINE to VCLK%s", ticks.delay, by_edition(r->dump)); break;
     case LCD_LINEBLANK: snprintf(to, MEANING, "%" PRIu64 " ticks of blank time a line", ticks.blank); break;
     case LCD_INVVLINE: snprintf(to, MEANING, "VLINE is %d when active", !n); break;
     case LCD_INVVFRAME: snprintf(to, MEANING, "VFRAME is %d when active", !n); break;

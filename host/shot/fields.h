@@ -98,9 +98,13 @@ struct stn_pauses {
     uint64_t vline, delay, blank;
 };
 
-struct stn_pauses stn_pauses_of(const struct readings *r);
+/* By a rule edition, 1 or 2. */
+struct stn_pauses stn_pauses_of(const struct readings *r, uint32_t edition);
 
-/* The ticks of a line. */
-uint64_t line_ticks(const struct readings *r);
+/* The ticks of a line, on STN by a rule edition. */
+uint64_t line_ticks(const struct readings *r, uint32_t edition);
+
+/* What is said beside an STN panel's length or rate, " by rule edition 1" or 2 as the dump has it; nothing of another panel. */
+const char *by_edition(const struct dump *d);
 
 #endif

@@ -132,9 +132,15 @@ static void put_faults(const struct faults *f) {
     close("]");
 }
 
+/* The rule edition of what stands beside it, where there are two. */
+static void put_edition(const struct dump *d) {
+    if (is_stn(d->words))
+        number("edition", d->edition);
+}
+
 static void put_counts(const struct shot *s) {
     uint64_t counts[3];
-    if (lcd_counts(s->dump.words, LCD_REGISTERS, s->dump.hclk, counts, 3)) {
+    if (lcd_counts(s->dump.words, LCD_REGISTERS, s->dump.edition, s->dump.hclk, counts, 3)) {
         text("counts", NULL);
         return;
     }
@@ -142,6 +148,7 @@ static void put_counts(const struct shot *s) {
     number("clocks", counts[0]);
     number("hclk", counts[1]);
     number("mhz", counts[2]);
+    put_edition(&s->dump);
     close("}");
 }
 
@@ -164,25 +171,28 @@ static void put_rate(const char *key, const struct readings *r, uint64_t ticks) 
 
 static void put_rates(const struct readings *r) {
     const uint32_t *s = r->sizes;
+    uint64_t line = line_ticks(r, r->dump->edition);
     open("millihertz", "{");
     put_rate("vclk", r, s[LCD_SIZE_TICKS]);
-    put_rate("line", r, line_ticks(r));
-    put_rate("frame", r, line_ticks(r) * s[LCD_SIZE_FRAME]);
+    put_rate("line", r, line);
+    put_rate("frame", r, line * s[LCD_SIZE_FRAME]);
     close("}");
 }
 
 /* An STN line in HCLK ticks and in time, which is null without HCLK or a clock. */
 static void put_line(const struct readings *r) {
-    struct stn_pauses ticks = stn_pauses_of(r);
+    struct stn_pauses ticks = stn_pauses_of(r, r->dump->edition);
+    uint64_t line = line_ticks(r, r->dump->edition);
     open("stn_line", "{");
-    number("ticks", line_ticks(r));
+    number("ticks", line);
     number("vline", ticks.vline);
     number("delay", ticks.delay);
     number("blank", ticks.blank);
     if (r->dump->hclk && r->sizes[LCD_SIZE_TICKS])
-        number("nanoseconds", line_ticks(r) * 1000000000 / r->dump->hclk);
+        number("nanoseconds", line * 1000000000 / r->dump->hclk);
     else
         text("nanoseconds", NULL);
+    put_edition(r->dump);
     close("}");
 }
 

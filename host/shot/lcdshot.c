@@ -40,12 +40,12 @@ static int make_card(const struct options *o) {
     for (int i = 0; i < 2; i++)
         numbers[i] = decimal_of("--testcard", names[i], o->card[i], UINT32_MAX);
     mode = card_mode_of(o->card[2]);
-    if (!testcard_make(&d, numbers[0], numbers[1], &mode, why))
+    if (!testcard_make(&d, numbers[0], numbers[1], &mode, o->rule_edition, why))
         misuse("--testcard", why);
     dump_write(&d, o->output);
     testcard_mode_text(&mode, how);
-    say("%" PRIu32 " by %" PRIu32 " %s, %s%s\n", numbers[0], numbers[1], how, testcard_shows(&mode),
-        numbers[0] < 64 || numbers[1] < 64 ? ", as far as they fit" : "");
+    say("%" PRIu32 " by %" PRIu32 " %s, %s%s%s%s\n", numbers[0], numbers[1], how, testcard_shows(&mode),
+        numbers[0] < 64 || numbers[1] < 64 ? ", as far as they fit" : "", mode.stn ? "; CLKVAL" : "", by_edition(&d));
     dump_free(&d);
     return 0;
 }
@@ -153,7 +153,7 @@ static void need_stn(const struct shot *s, const struct options *o) {
 static void say_animation(const struct shot *s, const struct options *o) {
     struct delay each = animation_delay(&s->dump);
     say("%" PRIu32 " frame%s from number %" PRIu32 " on, %u/%u s each%s\n", o->frames, o->frames == 1 ? "" : "s", o->first_frame,
-        each.over, each.under, s->dump.hclk ? "" : ", since there is no HCLK");
+        each.over, each.under, s->dump.hclk ? by_edition(&s->dump) : ", since there is no HCLK");
 }
 
 /* A golden picture is what the eye sees, unless a frame is asked for. */
@@ -186,6 +186,7 @@ static void take_golden(struct shot *s, const struct options *o, const struct by
 }
 
 static void take_old(struct shot *old, const struct options *o) {
+    old->dump.edition = o->rule_edition;
     take_dump(old, o->against, false);
     if (old->error || old->refusal == 14)
         fail(input_name(o->against), old->error ? old->error : lcd_refusal_text(14));
@@ -200,6 +201,7 @@ static void take_all(struct shot *s, struct shot *old, const struct options *o) 
     s->dump.one_frame = o->frame || o->animate;
     s->dump.frame = o->first_frame;
     s->dump.frames = o->animate ? o->frames : 0;
+    s->dump.edition = o->rule_edition;
     if (o->words[0])
         take_words(s, o);
     else

@@ -28,6 +28,8 @@ static const char help[] =
     "  --differences FILE    where pixels differ, write a picture of them, white on the dimmed screen\n"
     "  --frame F             of an STN panel draw one frame's bits, lit pixels white, and not the greys that the eye sees\n"
     "  --animate N           of an STN panel write N frames, 1 to 1000, from frame 0 or F on, as an animated PNG\n"
+    "  --edition 1|2         the rule edition of an STN panel's lengths and rates (1): its pulses, n in WLH or WDLY, are\n"
+    "                        2^(4+n) ticks by 1 and 16 x (n+1) by 2\n"
     "  --against OLD.dump    print the fields, palette entries and memory that differ from another dump\n"
     "  --golden-dir DIR      a line a dump: each is compared with the PNG of its name in DIR\n"
     "  --json                print all this as one JSON document\n"
@@ -90,6 +92,14 @@ static void take_frames(struct options *o) {
         misuse("--animate", "there is no frame above 4294967295");
 }
 
+/* A rule edition has one spelling. */
+static void take_edition(struct options *o) {
+    const char *text = o->edition ? o->edition : "1";
+    if (strcmp(text, "1") && strcmp(text, "2"))
+        wrong_number("--edition", "the rule edition", text, "neither 1 nor 2");
+    o->rule_edition = *text == '1' ? 1 : 2;
+}
+
 /* ---- reading */
 
 struct option {
@@ -99,7 +109,7 @@ struct option {
     const char **to;
 };
 
-enum { OPTIONS = 17 };
+enum { OPTIONS = 18 };
 
 static const char *const a_file[] = {"a file"}, *const a_folder[] = {"a folder"}, *const a_number[] = {"a number"},
                   *const an_address[] = {"an address"}, *const card_names[] = {"WIDTH", "HEIGHT", "BPP"};
@@ -113,6 +123,7 @@ static void list_options(struct options *o, struct option *all) {
         {"--differences", 1, a_file, &o->differences},
         {"--frame", 1, a_number, &o->frame},
         {"--animate", 1, a_number, &o->animate},
+        {"--edition", 1, a_number, &o->edition},
         {"--against", 1, a_file, &o->against},
         {"--golden-dir", 1, a_folder, &o->golden_dir},
         {"--json", 0, NULL, &o->json},
@@ -166,7 +177,7 @@ static void read_all(struct options *o, int argc, char **argv) {
         else if (!ended && (!strcmp(argv[i], "--help") || !strcmp(argv[i], "-h")))
             tell(help);
         else if (!ended && !strcmp(argv[i], "--version"))
-            tell("lcdshot 2.1, with lcd.h " LCD_VERSION "\n");
+            tell("lcdshot 2.2, with lcd.h " LCD_VERSION "\n");
         else if (!ended && !strcmp(argv[i], "--"))
             ended = true;
         else if (!ended && argv[i][0] == '-' && argv[i][1])
@@ -226,7 +237,7 @@ static void check_one(const struct options *o) {
         alone = "--registers";
     if (o->card[0] && (o->dump_count || o->words[0] || o->golden || o->against || o->golden_dir || o->registers || o->json ||
                        o->frame || o->animate))
-        misuse("--testcard", "takes -o alone");
+        misuse("--testcard", "takes -o and --edition alone");
     needs("--testcard", o->card[0], o->output, "-o and a file are missing");
     if (o->card[0] && ends_in(o->output, ".png"))
         misuse("--testcard", "makes a dump, which lcdshot then draws; -o names a picture");
@@ -258,5 +269,6 @@ struct options options_read(int argc, char **argv) {
     check_frames(&o);
     check_standard_input(&o);
     take_frames(&o);
+    take_edition(&o);
     return o;
 }

@@ -14,8 +14,8 @@ struct options {
     const char *output, *golden, *differences, *tolerance, *against, *golden_dir;
     const char *card[3];
     const char *registers, *json; /* not NULL where given */
-    const char *frame, *animate;
-    uint32_t first_frame, frames; /* their numbers: 0 and 1 where not given */
+    const char *frame, *animate, *edition;
+    uint32_t first_frame, frames, rule_edition; /* their numbers: 0, 1 and 1 where not given */
 };
 
 /* Reads the command line; ends the program where it is wrong, or asks for help or the version. */

@@ -50,14 +50,32 @@ static void say_mode(const struct shot *s) {
         say("%2" PRIu32 " %-4s", bits, bits == 1 ? "bit" : "bits");
 }
 
-static void say_facts(const struct shot *s) {
+/* The rate; false where there is none. */
+static bool rate_of(const struct dump *d, char *rate) {
     uint64_t counts[3];
+    if (!d->hclk || lcd_counts(d->words, LCD_REGISTERS, d->edition, d->hclk, counts, 3))
+        return false;
+    rate_text(counts[2], rate);
+    return true;
+}
+
+static void say_facts(const struct shot *s) {
     char rate[MEANING] = "no rate";
-    if (s->dump.hclk && !lcd_counts(s->dump.words, LCD_REGISTERS, s->dump.hclk, counts, 3))
-        rate_text(counts[2], rate);
+    rate_of(&s->dump, rate);
     say("  %4" PRIu32 " by %-4" PRIu32 "  ", s->readings.sizes[LCD_SIZE_WIDTH], s->readings.sizes[LCD_SIZE_HEIGHT]);
     say_mode(s);
     say("  %12s", rate);
+}
+
+/* What is to be known of the panel besides. */
+static void say_remarks(const struct shot *s) {
+    char rate[MEANING];
+    if (!s->refusal && !s->readings.fields[LCD_PWREN])
+        say("  dark: PWREN is 0");
+    if (!s->refusal && s->readings.fields[LCD_INVVD])
+        say("  negative: INVVD is 1");
+    if (s->refusal != 14 && is_stn(s->dump.words) && rate_of(&s->dump, rate))
+        say("  rate%s", by_edition(&s->dump));
 }
 
 static void say_line(const struct shot *s, int width) {
@@ -82,10 +100,7 @@ static void say_line(const struct shot *s, int width) {
         say("  differs: %zu of %zu pixels", s->comparison.differ, s->comparison.all);
     else if (s->compared)
         say("  differs in size");
-    if (!s->refusal && !s->readings.fields[LCD_PWREN])
-        say("  dark: PWREN is 0");
-    if (!s->refusal && s->readings.fields[LCD_INVVD])
-        say("  negative: INVVD is 1");
+    say_remarks(s);
     say("\n");
 }
 
@@ -104,7 +119,7 @@ static void progress(int done, int all, const char *name) {
 }
 
 static int show_one(const struct options *o, const char *name, uint32_t tolerance, int width) {
-    struct shot s = {.name = name};
+    struct shot s = {.name = name, .dump.edition = o->rule_edition};
     struct bytes b;
     int status;
     s.error = file_read(name, &b);

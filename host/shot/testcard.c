@@ -82,9 +82,9 @@ static void set_fields(uint32_t *fields, uint32_t width, uint32_t height, const 
 
 static uint64_t apart(uint64_t a, uint64_t b) { return a < b ? b - a : a - b; }
 
-/* CLKVAL for the rate nearest to 60 Hz, on STN from 2 on; the TD035STED4 has 4, as in T8. Returns the number of the refusal of the
- * words. */
-static uint32_t set_clock(uint32_t *fields, uint32_t *words) {
+/* CLKVAL for the rate nearest to 60 Hz, on STN from 2 on and by a rule edition; the TD035STED4 has 4, as in T8. Returns the number of
+ * the refusal of the words. */
+static uint32_t set_clock(uint32_t *fields, uint32_t *words, uint32_t edition) {
     uint64_t counts[3], best = UINT64_MAX;
     uint32_t chosen = 4, refusal;
     bool stn = fields[LCD_PNRMODE] == PANEL_STN;
@@ -92,7 +92,7 @@ static uint32_t set_clock(uint32_t *fields, uint32_t *words) {
     for (uint32_t clkval = stn ? 2 : 0; clkval < 1024 && !known; clkval++) {
         fields[LCD_CLKVAL] = clkval;
         if ((refusal = lcd_write_fields(fields, LCD_FIELDS, words, LCD_REGISTERS)) ||
-            (refusal = lcd_counts(words, LCD_REGISTERS, HCLK, counts, 3)))
+            (refusal = lcd_counts(words, LCD_REGISTERS, edition, HCLK, counts, 3)))
             return refusal;
         if (apart(counts[2], USUAL_MILLIHERTZ) < best)
             best = apart(counts[2], USUAL_MILLIHERTZ), chosen = clkval;
@@ -100,7 +100,7 @@ static uint32_t set_clock(uint32_t *fields, uint32_t *words) {
     fields[LCD_CLKVAL] = chosen;
     if ((refusal = lcd_write_fields(fields, LCD_FIELDS, words, LCD_REGISTERS)))
         return refusal;
-    return lcd_counts(words, LCD_REGISTERS, HCLK, counts, 3);
+    return lcd_counts(words, LCD_REGISTERS, edition, HCLK, counts, 3);
 }
 
 /* ---- the palette */
@@ -241,7 +241,7 @@ static uint32_t make(struct dump *d, uint32_t width, uint32_t height, const stru
     uint32_t fields[LCD_FIELDS], refusal = mode->stn && width % 8 ? 5 : 0;
     set_fields(fields, width, height, mode);
     if (!refusal)
-        refusal = set_clock(fields, d->words);
+        refusal = set_clock(fields, d->words, d->edition);
     if (refusal)
         return refusal;
     d->video_len = (size_t)fields[LCD_PAGEWIDTH] / 2 * height;
@@ -251,9 +251,9 @@ static uint32_t make(struct dump *d, uint32_t width, uint32_t height, const stru
     return lcd_check(d->words, LCD_REGISTERS, START, d->video, d->video_len);
 }
 
-bool testcard_make(struct dump *d, uint32_t width, uint32_t height, const struct card_mode *mode, char *why) {
+bool testcard_make(struct dump *d, uint32_t width, uint32_t height, const struct card_mode *mode, uint32_t edition, char *why) {
     uint32_t refusal;
-    *d = (struct dump){.hclk = HCLK, .window_start = START};
+    *d = (struct dump){.hclk = HCLK, .window_start = START, .edition = edition};
     if (no_fields(width, height, mode, why))
         return false;
     refusal = make(d, width, height, mode);

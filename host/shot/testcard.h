@@ -12,9 +12,9 @@ enum { CARD_FAULT = 120 };
 /* The modes that there are cards for. */
 #define CARD_MODES "1, 2, 4, 8, 16, 24, mono and grey"
 
-
-/* Makes the card of a width, a height and a mode. Returns false where there is none: `why` then names what is outside its limit. */
-bool testcard_make(struct dump *d, uint32_t width, uint32_t height, const struct card_mode *mode, char *why);
+/* Makes the card of a width, a height and a mode, on STN with a rate by a rule edition. Returns false where there is none: `why` then
+ * names what is outside its limit. */
+bool testcard_make(struct dump *d, uint32_t width, uint32_t height, const struct card_mode *mode, uint32_t edition, char *why);
 
 /* The mode as "at 16 bits", in at most CARD_FAULT characters. */
 void testcard_mode_text(const struct card_mode *mode, char *to);

@@ -19,7 +19,7 @@ use Rattle.fields.specs.Writing.{write, fieldTooWide}
 use Rattle.fields.specs.declared.Fields.{Fields}
 use Rattle.panel.specs.Counts.{acceptTimed, timedWords, counts, rate, frameTicks, panelClocks, panelTicks}
 use Rattle.panel.specs.Geometry.{width, height, storedBits, outsideModes, panelBits, panelWidth, rowOffset}
-use Rattle.panel.specs.Refusals.{judge, judgeEither, accept, notTft, neitherPanel, noSuchMode, swapsIllegal, rowSizeWrong, endDiffers, pastBank, videoOff, clockTooFast}
+use Rattle.panel.specs.Refusals.{judge, judgeEither, accept, notTft, neitherPanel, noSuchMode, swapsIllegal, rowSizeWrong, endDiffers, pastBank, videoOff, clockTooFast, noSuchEdition, judgeTimed}
 use Rattle.panel.specs.Timing.{lineClocks, frameLines, frameClocks}
 use Rattle.panel.specs.declared.frame.Counts.{Counts}
 use Rattle.panel.proofs.Examples as Panel
@@ -147,14 +147,14 @@ unfoldable pub judgement : List ℕ → ℕ
 unfolding judge lowest lower reservedBit stn notTft noSuchMode outsideModes swapsIllegal storedBits panelBits panelWidth rowSizeWrong endDiffers pastBank rowOffset
 judgement words = judge (nineWords words)
 
--- clocks and ticks of a frame (§6.3), and its rate at an HCLK (§6.4)
+-- clocks and ticks of a frame (§6.3), and its rate at an HCLK (§6.4), by rule edition 1: the panels are TFT
 unfoldable pub counted : List ℕ → List ℕ
-unfolding judgement counts mapped acceptTimed timedWords accept judgeEither neitherPanel clockTooFast andThen load shortOfNine judged lineClocks frameLines frameClocks frameTicks panelClocks panelTicks
-counted words = answered clocksAndTicks (counts words)
+unfolding judgement counts mapped acceptTimed timedWords accept judgeEither neitherPanel judgeTimed clockTooFast noSuchEdition andThen load shortOfNine judged lineClocks frameLines frameClocks frameTicks panelClocks panelTicks
+counted words = answered clocksAndTicks (counts words 1)
 
 unfoldable pub rated : List ℕ → ℕ → List ℕ
 unfolding counted rate
-rated words hclk = answered alone (rate words hclk)
+rated words hclk = answered alone (rate words 1 hclk)
 
 -- the sizes in the words: W, H, HSPW, HBPD, HFPD, VSPW, VBPD, VFPD, CLKVAL
 abbrev sizes : Words → List ℕ

@@ -1,5 +1,5 @@
-// The calls that draw nothing: the check, a frame's counts and its rate; and a clock's levels. Each call is made with what is lent, and
-// its answer compared with what is due: the number of the refusal or 0, then the values.
+// The calls that draw nothing: the check, a frame's counts and its rate, by rule edition 1; and a clock's levels. Each call is made with
+// what is lent, and its answer compared with what is due: the number of the refusal or 0, then the values.
 use super::case::Case;
 use super::lent::lend_video;
 use super::lent::lend_words;
@@ -39,7 +39,7 @@ fn frame_agrees(case: Case, frame: Counts) -> bool {
 pub(crate) fn counts_agree(text: &[u8], case: Case) -> bool {
     let mut words = [0u32; 16];
     let n = lend_words(text, case.lent, &mut words);
-    match frame_counts(&words[..n]) {
+    match frame_counts(&words[..n], 1) {
         Counted::Frame(frame) => frame_agrees(case, frame),
         Counted::Refused(n) => answer_agrees(case, n),
     }
@@ -49,7 +49,7 @@ pub(crate) fn rate_agrees(text: &[u8], case: Case) -> bool {
     let lent = case.lent;
     let mut words = [0u32; 16];
     let n = lend_words(text, lent, &mut words);
-    match frame_rate(&words[..n], lent.hclk) {
+    match frame_rate(&words[..n], 1, lent.hclk) {
         Rated::Millihertz(rate) => value_agrees(case, rate),
         Rated::Refused(n) => answer_agrees(case, n),
     }

@@ -30,12 +30,13 @@ pub extern "C" fn lcd_check(words: &[u32], window_start: u32, video: &[u32]) -> 
 }
 
 // The frame's clocks, its HCLK ticks and its rate in millihertz (§10.3) go to the first three entries of `counts`; the others stay.
-// Refusals: 10 for `words` with fewer than nine entries, 1 to 7, 10 for `counts` with fewer than three, 17. It takes TFT and STN panels.
+// Refusals: 10 for `words` with fewer than nine entries, 1 to 7, 10 for `counts` with fewer than three, 17, 27 for an
+// edition that is neither 1 nor 2. It takes TFT and STN panels.
 #[no_mangle]
-pub extern "C" fn lcd_counts(words: &[u32], hclk: u32, counts: &mut [u64]) -> u32
-    ensures { λ r. ⌜ leaves r (now (counts .exit)) ≡ readCounts (now (words .entry)) hclk (now (counts .entry)) ⌝ }
+pub extern "C" fn lcd_counts(words: &[u32], edition: u32, hclk: u32, counts: &mut [u64]) -> u32
+    ensures { λ r. ⌜ leaves r (now (counts .exit)) ≡ readCounts (now (words .entry)) edition hclk (now (counts .entry)) ⌝ }
 {
-    read_counts(words, hclk, counts)
+    read_counts(words, edition, hclk, counts)
 }
 
 // One row goes to the first W entries of `out`; the others stay (§5.6). Refusals: 10 for `words` with fewer than nine entries, 1 to 9,

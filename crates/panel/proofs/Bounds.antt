@@ -2,11 +2,12 @@
 use mathlib.Core.Bool.{Bool, true, false, cond}
 use Prim.Native.Nat.{ℕ, _+_, _*_, _<_, _≤_, _^_}
 use native.Mathlib.Omega.{arith}
+use lib.Dec.{eqb}
 use lib.Pow.{pow-mono}
 use Rattle.laws.specs.ProductLaws.{product-le}
 use Rattle.registers.specs.Fields.{clkval, hozval, wlh, wdly, stn}
 use Rattle.registers.specs.declared.Words.{Words}
-use Rattle.panel.specs.Counts.{frameTicks, pulse, stnLineTicks, stnFrameTicks, panelTicks}
+use Rattle.panel.specs.Counts.{frameTicks, pulse, laterPulse, editionPulse, stnLineTicks, stnFrameTicks, panelTicks}
 use Rattle.panel.specs.Geometry.{width, height, stnWidth, panelWidth, pitch, rowOffset}
 use Rattle.panel.specs.Timing.{timing, lineClocks, frameLines, frameClocks}
 
@@ -69,40 +70,58 @@ frame-ticks-ge w = product-le 2 (2 * (clkval w + 1)) 16 (frameClocks (timing w))
 
 -- ---- the frame of an STN panel
 
-pub pulse-le : (n : ℕ) → n < 4 → pulse n ≤ 128
+pulse-le : (n : ℕ) → n < 4 → pulse n ≤ 128
 pulse-le n h = pow-mono (below n h)
   where
     below : (k : ℕ) → k < 4 → 4 + k ≤ 7
     below k l = omega arith
 
-pub pulse-ge : (n : ℕ) → 16 ≤ pulse n
+pulse-ge : (n : ℕ) → 16 ≤ pulse n
 pulse-ge n = pow-mono (above n)
   where
     above : (k : ℕ) → 4 ≤ 4 + k
     above k = omega arith
 
+module _ (edition n : ℕ) where
+  -- what holds by both rule editions holds by the one given
+  by-either : (P : ℕ → Type 0) → P (laterPulse n) → P (pulse n) → P (editionPulse edition n)
+  unfolding editionPulse
+  by-either P later first = go (eqb edition 2)
+    where
+      go : (b : Bool) → P (cond b (laterPulse n) (pulse n))
+      go true = later
+      go false = first
+
+  pub edition-pulse-le : n < 4 → editionPulse edition n ≤ 128
+  edition-pulse-le h = by-either (λ ticks. ticks ≤ 128) (omega arith) (pulse-le n h)
+
+  edition-pulse-ge : 16 ≤ editionPulse edition n
+  edition-pulse-ge = by-either (λ ticks. 16 ≤ ticks) (omega arith) (pulse-ge n)
+
 pub stn-data-le : (w : Words) → 2 * clkval w * (hozval w + 1) ≤ 4190208
 stn-data-le w = product-le (2 * clkval w) 2046 (hozval w + 1) 2048 (omega arith) (omega arith)
 
-pub stn-line-ticks-le : (w : Words) → stnLineTicks pulse w ≤ 4192504
-unfolding stnLineTicks
-stn-line-ticks-le w =
-    omega (arith, stn-data-le w, pulse-le (wlh w) (omega arith), pulse-le (wdly w) (omega arith))
+module _ (w : Words) (edition : ℕ) where
+  pub stn-line-ticks-le : stnLineTicks (editionPulse edition) w ≤ 4192504
+  unfolding stnLineTicks
+  stn-line-ticks-le =
+      omega
+      (arith, stn-data-le w, edition-pulse-le edition (wlh w) (omega arith), edition-pulse-le edition (wdly w) (omega arith))
 
-pub stn-line-ticks-ge : (w : Words) → 32 ≤ stnLineTicks pulse w
-unfolding stnLineTicks
-stn-line-ticks-ge w = omega (arith, pulse-ge (wlh w), pulse-ge (wdly w))
+  pub stn-line-ticks-ge : 32 ≤ stnLineTicks (editionPulse edition) w
+  unfolding stnLineTicks
+  stn-line-ticks-ge = omega (arith, edition-pulse-ge edition (wlh w), edition-pulse-ge edition (wdly w))
 
-pub stn-frame-ticks-ge : (w : Words) → 32 ≤ stnFrameTicks pulse w
-unfolding stnFrameTicks
-stn-frame-ticks-ge w = product-le 1 (height w) 32 (stnLineTicks pulse w) (omega arith) (stn-line-ticks-ge w)
+  pub stn-frame-ticks-ge : 32 ≤ stnFrameTicks (editionPulse edition) w
+  unfolding stnFrameTicks
+  stn-frame-ticks-ge = product-le 1 (height w) 32 (stnLineTicks (editionPulse edition) w) (omega arith) stn-line-ticks-ge
 
 -- ---- of either
 
-pub panel-ticks-ge : (w : Words) → 32 ≤ panelTicks w
+pub panel-ticks-ge : (w : Words) (edition : ℕ) → 32 ≤ panelTicks w edition
 unfolding panelTicks
-panel-ticks-ge w = go (stn w)
+panel-ticks-ge w edition = go (stn w)
   where
-    go : (b : Bool) → 32 ≤ cond b (stnFrameTicks pulse w) (frameTicks w)
-    go true = stn-frame-ticks-ge w
+    go : (b : Bool) → 32 ≤ cond b (stnFrameTicks (editionPulse edition) w) (frameTicks w)
+    go true = stn-frame-ticks-ge w edition
     go false = frame-ticks-ge w

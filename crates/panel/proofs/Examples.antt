@@ -1,6 +1,6 @@
--- Worked cases (§13.1), tried on the definitions: T1's counts, T8, T11, the extremes of ticks and rate (§6.3, §6.4, §6.8), the rate that
--- a rounded pixel clock would miss (§13.2), and both sides of each of 1 to 7 (§9.1), on TFT and on STN. Their numbers are worked out by
--- hand.
+-- Worked cases (§13.1), tried on the definitions: T1's counts, T8, T11, the extremes of ticks and rate (§6.3, §6.4, §6.8), both rule
+-- editions, the rate that a rounded pixel clock would miss (§13.2), both sides of each of 1 to 7 (§9.1), on TFT and on STN, and 17 and 27.
+-- Their numbers are worked out by hand.
 use mathlib.Core.Bool.{Bool, true, false, _&&_}
 use mathlib.Core.List.{List, [], _∷_}
 use mathlib.Core.Path.{_≡_, refl, ap, ap₂, _∙_}
@@ -14,11 +14,11 @@ use Rattle.laws.specs.CaseLaws.{first, lowest-of-ascending-is-first}
 use Rattle.registers.specs.Fields.{pnrmode, bppmode, pagewidth, stn, reservedBit}
 use Rattle.registers.specs.Loading.{load, tooShort, shortOfNine, nineWords}
 use Rattle.registers.specs.declared.Words.{Words}
-use Rattle.panel.specs.Counts.{acceptTimed, timedWords, counts, rate, frameTicks}
+use Rattle.panel.specs.Counts.{acceptTimed, timedWords, counts, rate, frameTicks, editionPulse}
 use Rattle.panel.specs.Counts.{stnLineTicks, stnFrameClocks, stnFrameTicks, panelClocks, panelTicks}
 use Rattle.panel.specs.Geometry.{width, storedBits, outsideModes, stnBits, outsideStnModes, panelWidth, panelBits, rowOffset}
 use Rattle.panel.specs.Refusals.{notTft, notStn, neitherPanel, noSuchMode, swapsIllegal, rowSizeWrong, endDiffers, pastBank}
-use Rattle.panel.specs.Refusals.{judge, judgeStn, judgeEither, wordCases, clockTooFast, accept}
+use Rattle.panel.specs.Refusals.{judge, judgeStn, judgeEither, wordCases, clockTooFast, noSuchEdition, judgeTimed, accept}
 use Rattle.panel.specs.Timing.{lineClocks, frameLines, frameClocks}
 use Rattle.panel.proofs.Accepted.{accepted-words, tft-not-stn, row-bits}
 
@@ -26,52 +26,89 @@ use Rattle.panel.proofs.Accepted.{accepted-words, tft-not-stn, row-bits
 
 pub record Example : Type 0 where
   pub words : List ℕ
+  pub edition : ℕ
   pub hclk : ℕ
   pub clocks : ℕ
   pub ticks : ℕ
   pub millihertz : ℕ
 
-abbrev row : List ℕ → ℕ → ℕ → ℕ → ℕ → Example
-row words hclk clocks ticks millihertz =
-    record { words = words; hclk = hclk; clocks = clocks; ticks = ticks; millihertz = millihertz }
+abbrev row : List ℕ → ℕ → ℕ → ℕ → ℕ → ℕ → Example
+row words edition hclk clocks ticks millihertz =
+    record { words = words; edition = edition; hclk = hclk; clocks = clocks; ticks = ticks; millihertz = millihertz }
 
 abbrev pub examples : List Example
 examples =
     -- T1, a panel of 1 by 2
-    row (0x7B ∷ 0x4000 ∷ 0 ∷ 0 ∷ 0 ∷ 0x18000000 ∷ 4 ∷ 2 ∷ 0 ∷ []) 1000 20 40 25000
+    row (0x7B ∷ 0x4000 ∷ 0 ∷ 0 ∷ 0 ∷ 0x18000000 ∷ 4 ∷ 2 ∷ 0 ∷ []) 1 1000 20 40 25000
+    -- by rule edition 2: on TFT the same
+    ∷ row (0x7B ∷ 0x4000 ∷ 0 ∷ 0 ∷ 0 ∷ 0x18000000 ∷ 4 ∷ 2 ∷ 0 ∷ []) 2 1000 20 40 25000
     -- T8, a panel of 240 by 320, by T9's words
-    ∷ row (0x479 ∷ 0x014FC041 ∷ 0x0098EF09 ∷ 0x9 ∷ 0xB09 ∷ 0x18000000 ∷ 0x12C00 ∷ 0xF0 ∷ 0 ∷ []) 100000000 91280 912800 109553
+    ∷ row (0x479 ∷ 0x014FC041 ∷ 0x0098EF09 ∷ 0x9 ∷ 0xB09 ∷ 0x18000000 ∷ 0x12C00 ∷ 0xF0 ∷ 0 ∷ []) 1 100000000 91280 912800 109553
     -- the most ticks: 2048 by 1024, every porch, sync and CLKVAL at its largest
-    ∷ row (0x3FF77 ∷ 0xFFFFFFFF ∷ 0x03FFFFFF ∷ 0xFF ∷ 0 ∷ 0x18000000 ∷ 0x100000 ∷ 0x400 ∷ 0 ∷ []) 4294967295 4300800 8808038400 487
+    ∷ row (0x3FF77 ∷ 0xFFFFFFFF ∷ 0x03FFFFFF ∷ 0xFF ∷ 0 ∷ 0x18000000 ∷ 0x100000 ∷ 0x400 ∷ 0 ∷ []) 1 4294967295 4300800 8808038400 487
     -- the highest rate: one pixel, every part 1
-    ∷ row (0x7B ∷ 0 ∷ 0 ∷ 0 ∷ 0 ∷ 0x18000000 ∷ 2 ∷ 2 ∷ 0 ∷ []) 4294967295 16 32 134217727968
+    ∷ row (0x7B ∷ 0 ∷ 0 ∷ 0 ∷ 0 ∷ 0x18000000 ∷ 2 ∷ 2 ∷ 0 ∷ []) 1 4294967295 16 32 134217727968
     -- HCLK 0
-    ∷ row (0x7B ∷ 0 ∷ 0 ∷ 0 ∷ 0 ∷ 0x18000000 ∷ 2 ∷ 2 ∷ 0 ∷ []) 0 16 32 0
+    ∷ row (0x7B ∷ 0 ∷ 0 ∷ 0 ∷ 0 ∷ 0x18000000 ∷ 2 ∷ 2 ∷ 0 ∷ []) 1 0 16 32 0
     -- CLKVAL 1023 at 60 MHz: a pixel clock of 30.0 kHz would give 1875000, one of 29296 Hz 1831000
-    ∷ row (0x3FF7B ∷ 0 ∷ 0 ∷ 0 ∷ 0 ∷ 0x18000000 ∷ 2 ∷ 2 ∷ 0 ∷ []) 60000000 16 32768 1831054
+    ∷ row (0x3FF7B ∷ 0 ∷ 0 ∷ 0 ∷ 0 ∷ 0x18000000 ∷ 2 ∷ 2 ∷ 0 ∷ []) 1 60000000 16 32768 1831054
     -- STN, 320 by 240 in 16 greys: CLKVAL 8, WLH 2, WDLY 1, LINEBLANK 10; 816 ticks a line
-    ∷ row (0x845 ∷ 0x3BC000 ∷ 0x8270A ∷ 0xD02 ∷ 0 ∷ 0x18000000 ∷ 0x4B00 ∷ 0x50 ∷ 0 ∷ []) 60000000 9600 195840 306372
+    ∷ row (0x845 ∷ 0x3BC000 ∷ 0x8270A ∷ 0xD02 ∷ 0 ∷ 0x18000000 ∷ 0x4B00 ∷ 0x50 ∷ 0 ∷ []) 1 60000000 9600 195840 306372
+    -- by rule edition 2: 800 ticks a line, since WLH 2 gives 48 ticks and not 64
+    ∷ row (0x845 ∷ 0x3BC000 ∷ 0x8270A ∷ 0xD02 ∷ 0 ∷ 0x18000000 ∷ 0x4B00 ∷ 0x50 ∷ 0 ∷ []) 2 60000000 9600 192000 312500
     -- STN, the most ticks: mono, 16384 by 1024, every field at its largest
-    ∷ row (0x3FF41 ∷ 0xFFFFFFFF ∷ 0x1FFFFF ∷ 0xFF03 ∷ 0 ∷ 0x18000000 ∷ 0x100000 ∷ 0x400 ∷ 0 ∷ []) 4294967295 2097152 4293124096 1000
+    ∷ row (0x3FF41 ∷ 0xFFFFFFFF ∷ 0x1FFFFF ∷ 0xFF03 ∷ 0 ∷ 0x18000000 ∷ 0x100000 ∷ 0x400 ∷ 0 ∷ []) 1 4294967295 2097152 4293124096 1000
+    -- by rule edition 2: 128 ticks a line fewer
+    ∷ row (0x3FF41 ∷ 0xFFFFFFFF ∷ 0x1FFFFF ∷ 0xFF03 ∷ 0 ∷ 0x18000000 ∷ 0x100000 ∷ 0x400 ∷ 0 ∷ []) 2 4294967295 2097152 4292993024 1000
     -- STN, the highest rate: eight pixels, CLKVAL 2
-    ∷ row (0x245 ∷ 0 ∷ 0 ∷ 0 ∷ 0 ∷ 0x18000000 ∷ 2 ∷ 2 ∷ 0 ∷ []) 4294967295 1 36 119304647083
+    ∷ row (0x245 ∷ 0 ∷ 0 ∷ 0 ∷ 0 ∷ 0x18000000 ∷ 2 ∷ 2 ∷ 0 ∷ []) 1 4294967295 1 36 119304647083
     ∷ []
 
 abbrev pub AllHold : List Example → Type 0
 AllHold [] = Unit
 AllHold (x ∷ xs) =
-    (counts (x .words) ≡ accepted (record { clocks = x .clocks; ticks = x .ticks }))
-    × (rate (x .words) (x .hclk) ≡ accepted (x .millihertz))
+    (counts (x .words) (x .edition) ≡ accepted (record { clocks = x .clocks; ticks = x .ticks }))
+    × (rate (x .words) (x .edition) (x .hclk) ≡ accepted (x .millihertz))
     × AllHold xs
 
 pub examples-hold : AllHold examples
-unfolding counts rate mapped acceptTimed timedWords accept andThen load tooShort shortOfNine judged judgeEither lowest lower reservedBit stn neitherPanel notTft notStn noSuchMode outsideModes outsideStnModes swapsIllegal storedBits stnBits panelBits panelWidth rowSizeWrong endDiffers pastBank clockTooFast rowOffset lineClocks frameLines frameClocks frameTicks stnLineTicks stnFrameClocks stnFrameTicks panelClocks panelTicks
-examples-hold = (refl, refl, (refl, refl, (refl, refl, (refl, refl, (refl, refl, (refl, refl, (refl, refl, (refl, refl, (refl, refl, tt)))))))))
+unfolding counts rate mapped acceptTimed timedWords accept andThen load tooShort shortOfNine judged judgeEither judgeTimed lowest lower reservedBit stn neitherPanel notTft notStn noSuchMode outsideModes outsideStnModes swapsIllegal storedBits stnBits panelBits panelWidth rowSizeWrong endDiffers pastBank clockTooFast noSuchEdition rowOffset lineClocks frameLines frameClocks frameTicks editionPulse stnLineTicks stnFrameClocks stnFrameTicks panelClocks panelTicks
+examples-hold = (refl, refl, (refl, refl, (refl, refl, (refl, refl, (refl, refl, (refl, refl, (refl, refl, (refl, refl, (refl, refl, (refl, refl, (refl, refl, (refl, refl, tt))))))))))))
 
--- CLKVAL 1 on STN
-pub clkval-1 : counts (0x145 ∷ 0 ∷ 0 ∷ 0 ∷ 0 ∷ 0x18000000 ∷ 2 ∷ 2 ∷ 0 ∷ []) ≡ refused 17
-unfolding counts mapped acceptTimed timedWords accept andThen load tooShort shortOfNine judged judgeEither lowest lower reservedBit stn neitherPanel notTft notStn noSuchMode outsideStnModes swapsIllegal stnBits panelBits panelWidth rowSizeWrong endDiffers pastBank clockTooFast rowOffset
-clkval-1 = refl
+-- ---- refusals of a length
+
+pub record Refusal : Type 0 where
+  pub words : List ℕ
+  pub edition : ℕ
+  pub number : ℕ
+
+abbrev refusal : List ℕ → ℕ → ℕ → Refusal
+refusal words edition number = record { words = words; edition = edition; number = number }
+
+abbrev pub refusals : List Refusal
+refusals =
+    -- 27 on TFT, T1's words: either side of the two editions, and the largest number
+    refusal (0x7B ∷ 0x4000 ∷ 0 ∷ 0 ∷ 0 ∷ 0x18000000 ∷ 4 ∷ 2 ∷ 0 ∷ []) 0 27
+    ∷ refusal (0x7B ∷ 0x4000 ∷ 0 ∷ 0 ∷ 0 ∷ 0x18000000 ∷ 4 ∷ 2 ∷ 0 ∷ []) 3 27
+    ∷ refusal (0x7B ∷ 0x4000 ∷ 0 ∷ 0 ∷ 0 ∷ 0x18000000 ∷ 4 ∷ 2 ∷ 0 ∷ []) 4294967295 27
+    -- on STN, CLKVAL 2
+    ∷ refusal (0x245 ∷ 0 ∷ 0 ∷ 0 ∷ 0 ∷ 0x18000000 ∷ 2 ∷ 2 ∷ 0 ∷ []) 0 27
+    -- 17 on STN, CLKVAL 1, by either edition, and before 27
+    ∷ refusal (0x145 ∷ 0 ∷ 0 ∷ 0 ∷ 0 ∷ 0x18000000 ∷ 2 ∷ 2 ∷ 0 ∷ []) 1 17
+    ∷ refusal (0x145 ∷ 0 ∷ 0 ∷ 0 ∷ 0 ∷ 0x18000000 ∷ 2 ∷ 2 ∷ 0 ∷ []) 2 17
+    ∷ refusal (0x145 ∷ 0 ∷ 0 ∷ 0 ∷ 0 ∷ 0x18000000 ∷ 2 ∷ 2 ∷ 0 ∷ []) 3 17
+    -- 6, and 10 for eight words, before 27
+    ∷ refusal (0x245 ∷ 0 ∷ 0 ∷ 0 ∷ 0 ∷ 0x18000000 ∷ 4 ∷ 2 ∷ 0 ∷ []) 0 6
+    ∷ refusal (0x245 ∷ 0 ∷ 0 ∷ 0 ∷ 0 ∷ 0x18000000 ∷ 2 ∷ 2 ∷ []) 0 10
+    ∷ []
+
+abbrev pub AllRefused : List Refusal → Type 0
+AllRefused [] = Unit
+AllRefused (x ∷ xs) = (counts (x .words) (x .edition) ≡ refused (x .number)) × AllRefused xs
+
+pub refusals-hold : AllRefused refusals
+unfolding counts mapped acceptTimed timedWords accept andThen load tooShort shortOfNine judged judgeEither judgeTimed lowest lower reservedBit stn neitherPanel notTft notStn noSuchMode outsideModes outsideStnModes swapsIllegal storedBits stnBits panelBits panelWidth rowSizeWrong endDiffers pastBank clockTooFast noSuchEdition rowOffset
+refusals-hold = (refl, (refl, (refl, (refl, (refl, (refl, (refl, (refl, (refl, tt)))))))))
 
 -- ---- refusals
 

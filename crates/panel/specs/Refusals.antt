@@ -1,6 +1,6 @@
--- Refusals 2 to 7, 9 and 17 (§9.1; the rules of 3 to 7 are in §2.2, §2.3, §4.4, §3.4 and §3.5), and the judgement by 1 to 7 (§9.2), for
--- the kind of panel that a call takes (§9.3): TFT, STN, or either. 9 and 17 are judged elsewhere. Promises cite it, so a reader must
--- believe it.
+-- Refusals 2 to 7, 9, 17 and 27 (§9.1; the rules of 3 to 7 are in §2.2, §2.3, §4.4, §3.4 and §3.5), and the judgement by 1 to 7 (§9.2),
+-- for the kind of panel that a call takes (§9.3): TFT, STN, or either. 9, 17 and 27 are judged by themselves. Promises cite it, so a
+-- reader must believe it.
 use mathlib.Core.Bool.{Bool, not, cond, _&&_, _||_}
 use mathlib.Core.List.{List, [], _∷_}
 use Prim.Native.Nat.{ℕ, _+_, _-_, _*_, _%_, _^_}
@@ -98,6 +98,17 @@ accept s = andThen (load s) (λ w. judged (judgeEither w) w)
 -- 17 (§9.1, §6.8): an STN panel's clock needs a CLKVAL of 2 at least
 unfoldable pub clockTooFast : Words → Bool
 clockTooFast w = stn w && ltb (clkval w) 2
+
+-- 27 (§9.1, §6.8): there are rule editions 1 and 2
+unfoldable pub noSuchEdition : ℕ → Bool
+noSuchEdition edition = not (eqb edition 1 || eqb edition 2)
+
+-- for a call that gives a frame's length or rate, after all else: 17, then 27, on TFT words too (§9.3)
+abbrev pub timedCases : Words → ℕ → List Case
+timedCases w edition = 17 when clockTooFast w ∷ 27 when noSuchEdition edition ∷ []
+
+unfoldable pub judgeTimed : Words → ℕ → ℕ
+judgeTimed w edition = lowest (timedCases w edition)
 
 -- 9 (§9.1): video is off; only calls that show the screen are judged by it (§9.3)
 unfoldable pub videoOff : Words → Bool

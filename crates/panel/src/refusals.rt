@@ -7,7 +7,8 @@ ghost use Rattle.registers.specs.Fields.{bppmode};
 ghost use Rattle.registers.specs.Loading.{loaded};
 ghost use Rattle.panel.specs.Geometry.{outsideModes, outsideStnModes};
 ghost use Rattle.panel.specs.Refusals.{notTft, notStn, neitherPanel, noSuchMode, swapsIllegal, rowSizeWrong, endDiffers, pastBank};
-ghost use Rattle.panel.specs.Refusals.{judgeWhere, judge, judgeEither, judgeStn, videoOff, clockTooFast, accept};
+ghost use Rattle.panel.specs.Refusals.{judgeWhere, judge, judgeEither, judgeStn, videoOff, accept};
+ghost use Rattle.panel.specs.Refusals.{clockTooFast, noSuchEdition, judgeTimed};
 use super::geometry::Depth;
 use super::geometry::height;
 use super::geometry::panel_bits;
@@ -145,6 +146,26 @@ pub fn clock_too_fast(w: Words) -> bool
     ensures { λ r. ⌜ r ≡ clockTooFast w ⌝ }
 {
     w.stn() & (w.clkval() < 2)
+}
+
+// Refusal 27 (§9.1): no such rule edition.
+pub fn no_such_edition(edition: u32) -> bool
+    ensures { λ r. ⌜ r ≡ noSuchEdition edition ⌝ }
+{
+    !((edition == 1) | (edition == 2))
+}
+
+// The judgement of a frame's length by a rule edition, of words that 1 to 7 let pass: 17, then 27, or 0 (§9.3).
+pub fn judge_timed(w: Words, edition: u32) -> u32
+    ensures { λ r. ⌜ r ≡ judgeTimed w edition ⌝ }
+{
+    if clock_too_fast(w) {
+        return 17;
+    }
+    if no_such_edition(edition) {
+        return 27;
+    }
+    0
 }
 
 // Refusal 9 (§9.1): video is off.

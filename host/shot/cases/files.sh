@@ -208,4 +208,4 @@ cp "$t1" ./-t1
 gives 0 'clocks 20 hclk 40 mhz 25000' -- -t1
 gives 0 'usage: lcdshot DUMP [-o SCREEN.png] [--registers] [--compare GOLDEN.png [--tolerance N] [--differences DIFF.png]]' --help
 gives 0 'usage: lcdshot DUMP [-o SCREEN.png] [--registers] [--compare GOLDEN.png [--tolerance N] [--differences DIFF.png]]' "$t1" -h
-same "$("$shot" --version)" "lcdshot 2.1, with lcd.h $(sed -n 's/#define LCD_VERSION "\(.*\)"/\1/p' "$top/host/lcd.h")" 'the version'
+same "$("$shot" --version)" "lcdshot 2.2, with lcd.h $(sed -n 's/#define LCD_VERSION "\(.*\)"/\1/p' "$top/host/lcd.h")" 'the version'

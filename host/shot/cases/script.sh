@@ -46,9 +46,9 @@ screen.png
 t1.dump" 'the script by its name alone'
 
 # what changed is built, and a file more or less is noticed
-sed -i 's/lcdshot 2\.1/lcdshot 2.1-changed/' tree/host/shot/options.c
+sed -i 's/lcdshot 2\.2/lcdshot 2.2-changed/' tree/host/shot/options.c
 GNUMAKEFLAGS=-n MAKEFLAGS=-n by_script without-rt --version
-same "$status $(cut -d, -f1 out)" '0 lcdshot 2.1-changed' 'a changed source, whatever the caller asks of make'
+same "$status $(cut -d, -f1 out)" '0 lcdshot 2.2-changed' 'a changed source, whatever the caller asks of make'
 echo 'int more;' > tree/host/shot/more.c
 by_script without-rt --version
 same "$status $([ -e tree/target/host/shot/more.o ] && echo built)" '0 built' 'a new source'
@@ -84,7 +84,7 @@ while IFS= read -r line; do
     eval "$line" > out 2> err || status=$?
     same "$status $(wc -c < err)" "$([[ $line = *--against* ]] && echo 1 || echo 0) 0" "$line"
 done < <(sed -n 's/^ \{4,\}\(host\/lcdshot .*\)/\1/p; s/^ \{4,\}\(p="--palette.*\)/\1/p' README.md docs/DUMPS.md)
-same "$commands $(ls screen.png board.dump card.dump)" "21 board.dump
+same "$commands $(ls screen.png board.dump card.dump)" "22 board.dump
 card.dump
 screen.png" 'all commands were found'
 # in docs/REFERENCE.md the line below a command is the first that it prints

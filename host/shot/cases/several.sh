@@ -13,7 +13,8 @@ run "$examples"/*.dump
 same "$status $(wc -l < out)" '0 8' 'a line each'
 says "$examples/at070tn83-4.dump 800 by 480 4 bits 51.313 Hz accepted" 'name, size, mode, rate'
 run "$examples"/*.dump --golden-dir goldens
-same "$status $(grep -c 'accepted  equal$' out)" '0 8' 'all are their golden pictures'
+same "$status $(grep -c 'accepted  equal$' out) $(grep -c 'accepted  equal  rate by rule edition 1$' out)" '0 6 2' \
+    'all are their golden pictures'
 run td035sted4-16.dump --golden-dir goldens
 same "$status: $(cat out)" '0: td035sted4-16.dump   240 by 320   16 bits    109.553 Hz  accepted  equal' 'one dump and a folder of golden pictures'
 run td035sted4-16.dump no-panel.dump short.dump

@@ -107,7 +107,7 @@ END_OF_PYTHON
 
 due='clocks 4 hclk 256 mhz 3906250'
 gives 0 "$due" grey.dump -o eye.png
-says '3.906 kHz, 250.000 kHz clock of 8 pixels' 'the counts in plain units'
+says '3.906 kHz by rule edition 1, 250.000 kHz clock of 8 pixels' 'the counts in plain units'
 up=0024334055666d809299aab6bfccdbff
 down=ffdbccbfb6aa9992806d665540332400
 same "$(png values eye.png)" "$up$down" 'the 16 greys, level by level'
@@ -167,25 +167,27 @@ wrong '--frame: -o or --compare is missing' grey.dump --frame 1
 wrong '--frame: makes a picture; -o names a dump' grey.dump --frame 1 -o none.dump
 wrong '--frame: for STN panels only; these words are a TFT panel'\''s (PNRMODE is 3)' "$td.dump" --frame 1 -o none.png
 wrong '--frame: for STN panels only; these words are a TFT panel'\''s (PNRMODE is 3)' "$td.dump" --frame 1 --compare "$td.png" --json
-wrong '--testcard: takes -o alone' --testcard 64 64 grey -o none.dump --frame 1
+wrong '--testcard: takes -o and --edition alone' --testcard 64 64 grey -o none.dump --frame 1
 wrong '-o: takes one dump' grey.dump mono.dump --frame 1 -o none.png
 same "$(files 'none*')" '' 'nothing is written where a call is wrong'
 
 # ---- frames as an animated PNG
 
 run grey.dump --animate 9 -o nine.png
-same "$status $(sed -n 3p out)" '0 9 frames from number 0 on, 4/15625 s each' 'what was written'
+same "$status $(sed -n 3p out)" '0 9 frames from number 0 on, 4/15625 s each by rule edition 1' 'what was written'
 same "$(png head nine.png)" "16 by 2 of 1 frames 9 delays ['4/15625']" 'the chunks of nine frames'
 same "$(lines=9 png values nine.png)" "$(python3 due.py 0 1 2 3 4 5 6 7 8)" 'nine frames'
 run grey.dump --frame 4294967290 --animate 6 -o last.png
-same "$status $(sed -n 3p out)" '0 6 frames from number 4294967290 on, 4/15625 s each' 'the last frames that there are'
+same "$status $(sed -n 3p out)" '0 6 frames from number 4294967290 on, 4/15625 s each by rule edition 1' \
+    'the last frames that there are'
 same "$(lines=6 png values last.png)" "$(python3 due.py $(seq 4294967290 4294967295))" 'the last six frames'
 run grey.dump --animate 1 -o one.png
 same "$status $(png head one.png) $(png values one.png)" "0 16 by 2 of 1 frames 1 delays ['4/15625'] $(python3 due.py 0)" 'one frame'
 gives 0 "$due" grey.dump --frame 0 --compare nine.png
 same "$(tail -n 1 out)" 'equal: 32 pixels' 'a program that knows no animation sees the first frame'
 "$shot" grey.dump --animate 9 -o - 2> err > through.png
-same "$(cmp through.png nine.png 2>&1)$(sed -n 3p err)" '9 frames from number 0 on, 4/15625 s each' 'an animation to standard output'
+same "$(cmp through.png nine.png 2>&1)$(sed -n 3p err)" '9 frames from number 0 on, 4/15625 s each by rule edition 1' \
+    'an animation to standard output'
 run grey.dump --animate 1000 -o all.png
 same "$status $(png head all.png)" "0 16 by 2 of 1 frames 1000 delays ['4/15625']" 'as many frames as there may be'
 # a whole picture, of several chunks a frame: each frame is what --frame gives
@@ -215,7 +217,7 @@ delay 64 64/25
 stn_dump '3ff41 ffc000 1fffff 3 8 18000000 100000 400 0' 1 '' > slow.dump
 head -c 2097152 /dev/zero >> slow.dump
 gives 0 'clocks 2097152 hclk 4293124096 mhz 0' slow.dump --animate 1 -o slow.png
-same "$(sed -n 3p out)" '1 frame from number 0 on, 65535/1 s each' 'a frame of more than 65535 seconds'
+same "$(sed -n 3p out)" '1 frame from number 0 on, 65535/1 s each by rule edition 1' 'a frame of more than 65535 seconds'
 same "$(png head slow.png)" "16384 by 1024 of 1 frames 1 delays ['65535/1']" 'the largest panel'
 
 for number in x -1 '' 0x10 1.0; do
@@ -229,7 +231,7 @@ wrong '--animate: -o and a file are missing' grey.dump --animate 2
 wrong '--animate: makes a picture; -o names a dump' grey.dump --animate 2 -o none.dump
 wrong '--animate: not with --compare, which takes one picture' grey.dump --animate 2 -o none.png --compare eye.png
 wrong '--animate: for STN panels only; these words are a TFT panel'\''s (PNRMODE is 3)' "$td.dump" --animate 2 -o none.png
-wrong '--testcard: takes -o alone' --testcard 64 64 grey -o none.dump --animate 1
+wrong '--testcard: takes -o and --edition alone' --testcard 64 64 grey -o none.dump --animate 1
 wrong '-o: words alone make no picture; --memory and --start are missing' --words $stn --animate 2 -o none.png
 patch grey.dump 1 1 > refused.dump
 gives 1 'refused 17' refused.dump --animate 2 -o none.png
@@ -253,12 +255,12 @@ VCLK        250.000 kHz
 line time   128.000 us
 line rate   7.812 kHz' 'the panel of an STN dump'
 same "$(grep -A 3 '^LCDCON3' out | sed 's/  */ /g')" 'LCDCON3 0x00080103
- WDLY 20..19 1 32 ticks from VLINE to VCLK
+ WDLY 20..19 1 32 ticks from VLINE to VCLK by rule edition 1
  HOZVAL 18..8 1 16 pixels a row, the width: 2 clocks of 8
  LINEBLANK 7..0 3 24 ticks of blank time a line' 'WDLY and LINEBLANK'
 same "$(grep -A 2 '^LCDCON4' out | sed 's/  */ /g')" 'LCDCON4 0x00000002
  MVAL 15..8 0 VM'\''s rate where MMODE is 1
- WLH 1..0 2 64 ticks of VLINE' 'WLH'
+ WLH 1..0 2 64 ticks of VLINE by rule edition 1' 'WLH'
 same "$(tail -n 1 out)" 'TPAL 0x00000000  all reserved on STN' 'TPAL'
 same "$(grep -c 'porch\|HSYNC\|VSYNC\|HBPD\|HFPD\|HSPW\|TPALEN\|palette\|(STN only)' out)" 0 'no word of what TFT alone has'
 same "$(grep -c 'TFT only' out)" 8 'fields that mean something on TFT alone'
@@ -327,7 +329,7 @@ says 'lifted by PNRMODE 2, then accepted' 'the STN panel that is taken'
 says "panel 2 by 2 pixels by TFT's rules (as all below), no TFT mode" 'the rules that sizes of no panel go by'
 run refused.dump grey.dump "$td.dump" short.dump
 same "$(sed 's/  */ /g; s/^[^ ]*//' out)" " 2 by 2 no mode no rate refused 2 size by TFT's rules
- 16 by 2 greys 3.906 kHz accepted
+ 16 by 2 greys 3.906 kHz accepted rate by rule edition 1
  240 by 320 16 bits 109.553 Hz accepted
  refused 14" 'and in a line'
 refused 2 '19 4000 80103 2 b09 18000000 4 2 0' 2
@@ -416,18 +418,18 @@ stn_dump '245 4000 380005 103 8 18000000 8 4 800000' f4240 "$levels" > else.dump
 run else.dump --against grey.dump
 same "$(sed -n '/^differs/,$p' out | sed 's/   */  /g')" 'differs from grey.dump
   LCDCON3  reserved bits 0, bits 31..21  ->  1, bits 31..21
-  LCDCON3  WDLY  1, 32 ticks from VLINE to VCLK  ->  3, 128 ticks from VLINE to VCLK
+  LCDCON3  WDLY  1, 32 ticks from VLINE to VCLK by rule edition 1  ->  3, 128 ticks from VLINE to VCLK by rule edition 1
   LCDCON3  HOZVAL  1, 16 pixels a row, the width: 2 clocks of 8  ->  0, 8 pixels a row, the width: 1 clock of 8
   LCDCON3  LINEBLANK  3, 24 ticks of blank time a line  ->  5, 40 ticks of blank time a line
   LCDCON4  MVAL  0, VM'\''s rate where MMODE is 1  ->  1, VM'\''s rate where MMODE is 1
-  LCDCON4  WLH  2, 64 ticks of VLINE  ->  3, 128 ticks of VLINE
+  LCDCON4  WLH  2, 64 ticks of VLINE by rule edition 1  ->  3, 128 ticks of VLINE by rule edition 1
   TPAL  reserved bits 0, bits 31..0  ->  8388608, bits 31..0
   refusal  0, accepted  ->  1, refused' 'their own fields'
 run grey.dump --against "$td.dump"
 same "$(grep 'HBPD\|HFPD\|HSPW\|PNRMODE' out | sed 's/   */  /g')" '  LCDCON1  PNRMODE  3, TFT  ->  2, STN, 8-bit single scan
-  LCDCON3  HBPD  19, 20 clocks of back porch  ->  1, WDLY 1: 32 ticks from VLINE to VCLK
+  LCDCON3  HBPD  19, 20 clocks of back porch  ->  1, WDLY 1: 32 ticks from VLINE to VCLK by rule edition 1
   LCDCON3  HFPD  9, 10 clocks of front porch  ->  3, LINEBLANK 3: 24 ticks of blank time a line
-  LCDCON4  HSPW  9, 10 clocks of HSYNC  ->  2, WLH 2: 64 ticks of VLINE' 'an STN panel beside a TFT one'
+  LCDCON4  HSPW  9, 10 clocks of HSYNC  ->  2, WLH 2: 64 ticks of VLINE by rule edition 1' 'an STN panel beside a TFT one'
 # the palette means something beside a TFT panel alone
 patch grey.dump 44 1 > palette.dump
 run palette.dump --against grey.dump
@@ -447,15 +449,15 @@ says 'TPAL TPALVAL 0, reserved on STN -> 1, its colour, 0x000001' 'and the other
 
 cp "$examples/stn320x240-grey.dump" "$examples/stn640x480-mono.dump" .
 run stn320x240-grey.dump stn640x480-mono.dump --golden-dir "$examples"
-same "$status: $(sed 's/  */ /g' out)" '0: stn320x240-grey.dump 320 by 240 greys 59.728 Hz accepted equal
-stn640x480-mono.dump 640 by 480 mono 58.917 Hz accepted equal' 'a line each'
+same "$status: $(sed 's/  */ /g' out)" '0: stn320x240-grey.dump 320 by 240 greys 59.728 Hz accepted equal rate by rule edition 1
+stn640x480-mono.dump 640 by 480 mono 58.917 Hz accepted equal rate by rule edition 1' 'a line each'
 json() { jq -c ".dumps[0] | $1" out; }
 run grey.dump --json
 same "$(json '[.panel, .width, .height, .bits, .counts.clocks, .counts.hclk, .counts.mhz]')" '["STN",16,2,4,4,256,3906250]' \
     'the facts as JSON'
 same "$(json '[.sizes[]]')" '[16,2,4,4,0,0,0,2,0,0,0,2]' 'the sizes as JSON'
 same "$(json '.millihertz')" '{"vclk":250000000,"line":7812500,"frame":3906250}' 'the rates as JSON'
-same "$(json '.stn_line')" '{"ticks":128,"vline":64,"delay":32,"blank":24,"nanoseconds":128000}' 'the line as JSON'
+same "$(json '.stn_line')" '{"ticks":128,"vline":64,"delay":32,"blank":24,"nanoseconds":128000,"edition":1}' 'the line as JSON'
 same "$(json '[.registers[2, 3, 8].fields[] | [.name, .high, .low, .number]]')" \
     '[["WDLY",20,19,1],["HOZVAL",18,8,1],["LINEBLANK",7,0,3],["MVAL",15,8,0],["WLH",1,0,2]]' 'the fields as JSON'
 run --words 45 4000 280103 2 8 18000000 8 4 1 --json
@@ -490,6 +492,210 @@ frames_json '[null,null,null,null]' refused.dump --frame 3 -o none.png
 run "$td.dump" --compare "$td.png" --json
 same "$(json '[has("frame", "frames", "frame_delay"), (.comparison | has("frame"))]')" '[false,false,false,false]' 'no frames on TFT'
 
+# ---- the rule edition: n of WLH and WDLY is 16, 32, 64 or 128 ticks by 1, which is the default, and 16, 32, 48 or 64 by 2
+
+# grey.dump: 2 x 4 + 64 + 32 + 24 = 128 ticks a line by 1, 8 + 48 + 32 + 24 = 112 by 2
+gives 0 "$due" grey.dump --edition 1
+due2='clocks 4 hclk 224 mhz 4464285'
+gives 0 "$due2" grey.dump --edition 2
+same "$(sed -n 2p out)" '4.464 kHz by rule edition 2, 250.000 kHz clock of 8 pixels' 'a rate by rule edition 2'
+# 320 by 240: 16 x 40 + 64 + 32 + 80 = 816 and 640 + 48 + 32 + 80 = 800
+given='845 3bc000 8270a d02 0 18000000 4b00 50 0'
+gives 0 'clocks 9600 hclk 195840 mhz 306372' --words $given --hclk 60000000
+gives 0 'clocks 9600 hclk 195840 mhz 306372' --words $given --hclk 60000000 --edition 1
+gives 0 'clocks 9600 hclk 192000 mhz 312500' --edition 2 --words $given --hclk 60000000
+gives 0 'clocks 9600 hclk 192000 mhz 0' --words $given --edition 2
+same "$(sed -n 2p out)" 'no rate: HCLK is not given; ticks by rule edition 2' 'ticks without a rate'
+stn_dump "$stn" 0 "$levels" > still.dump
+gives 0 'clocks 4 hclk 256 mhz 0' still.dump
+same "$(sed -n 2p out)" 'no rate: HCLK is 0; ticks by rule edition 1' 'ticks where HCLK is 0'
+
+# the account of an example, 166 x 40 = 6640 ticks of clocks: 6640 + 128 + 128 + 80 and 6640 + 64 + 64 + 80
+example=$examples/stn320x240-grey.dump
+run "$example" --registers --edition 2
+same "$(sed -n '1,18p' out)" 'clocks 9600 hclk 1643520 mhz 60845
+60.845 Hz by rule edition 2, 602.409 kHz clock of 8 pixels
+panel       320 by 240 pixels, STN, 4 bits a pixel, 16 greys
+line        6848 ticks: 40 clocks of 166, VLINE 64, delay 64, blank 80
+frame       240 lines: 9600 clocks, 1643520 ticks
+HCLK        100000000 Hz
+VCLK        602.409 kHz
+line time   68.480 us
+line rate   14.602 kHz
+frame rate  60.845 Hz
+rule edition  2, as above       1
+  VLINE       64 ticks          128 ticks
+  delay       64 ticks          128 ticks
+  line        6848 ticks        6976 ticks
+  frame       1643520 ticks     1674240 ticks
+  line time   68.480 us         69.760 us
+  line rate   14.602 kHz        14.334 kHz
+  frame rate  60.845 Hz         59.728 Hz' 'an account by rule edition 2'
+same "$(grep ' WDLY \| WLH ' out | sed 's/  */ /g')" ' WDLY 20..19 3 64 ticks from VLINE to VCLK by rule edition 2
+ WLH 1..0 3 64 ticks of VLINE by rule edition 2' 'the fields by rule edition 2'
+side_by_side() { sed -n '/^rule edition/,/^[^r ]/p' out | sed '$d'; }
+same "$(side_by_side)" "$(sed -n '/^    rule edition/,/^$/s/^    \(.\)/\1/p' "$top/docs/DUMPS.md")" 'what docs/DUMPS.md shows of it'
+run --words $given --hclk 60000000 --registers
+same "$(side_by_side)" 'rule edition  1, as above       2
+  VLINE       64 ticks          48 ticks
+  delay       32 ticks          32 ticks
+  line        816 ticks         800 ticks
+  frame       195840 ticks      192000 ticks
+  line time   13.600 us         13.333 us
+  line rate   73.529 kHz        75.000 kHz
+  frame rate  306.372 Hz        312.500 Hz' 'both rule editions side by side'
+run --words $given --registers --edition 2
+same "$(side_by_side)" 'rule edition  2, as above       1
+  VLINE       48 ticks          64 ticks
+  delay       32 ticks          32 ticks
+  line        800 ticks         816 ticks
+  frame       192000 ticks      195840 ticks' 'both without HCLK'
+run --words 3ff45 ffc000 1fffff 3 8 18000000 0 7fe 0 --registers --edition 2
+says 'frame 4292993024 ticks 4293124096 ticks' 'the longest frame by both'
+# refused words have an account too, without a clock no rates
+run --words 45 4000 80103 2 8 18000000 8 4 0 --hclk 1000000 --registers --edition 2
+same "$status $(head -n 1 out) $(side_by_side)" '1 refused 17 rule edition  2, as above       1
+  VLINE       48 ticks          64 ticks
+  delay       32 ticks          32 ticks
+  line        104 ticks         120 ticks
+  frame       208 ticks         240 ticks' 'both of refused words'
+
+# every WLH with every WDLY, each by both: one clock of 4 ticks and a blank time of 24 on each of two lines
+ticks1=(16 32 64 128) ticks2=(16 32 48 64)
+for wlh in 0 1 2 3; do
+    for wdly in 0 1 2 3; do
+        one=$((28 + ticks1[wlh] + ticks1[wdly])) two=$((28 + ticks2[wlh] + ticks2[wdly]))
+        pair=(--words 245 4000 "$(printf %x $((wdly << 19 | 3)))" "$wlh" 8 18000000 4 2 0 --registers)
+        run "${pair[@]}"
+        same "$status $(head -n 1 out)" "0 clocks 2 hclk $((2 * one)) mhz 0" "WLH $wlh and WDLY $wdly by rule edition 1"
+        says "line $one ticks: 1 clock of 4, VLINE ${ticks1[wlh]}, delay ${ticks1[wdly]}, blank 24" "the line of WLH $wlh, WDLY $wdly"
+        first=$(side_by_side | sed 's/  */ /g')
+        run "${pair[@]}" --edition 2
+        same "$status $(head -n 1 out)" "0 clocks 2 hclk $((2 * two)) mhz 0" "WLH $wlh and WDLY $wdly by rule edition 2"
+        says "line $two ticks: 1 clock of 4, VLINE ${ticks2[wlh]}, delay ${ticks2[wdly]}, blank 24" "the line of WLH $wlh, WDLY $wdly by 2"
+        if [ "$wlh" -lt 2 ] && [ "$wdly" -lt 2 ]; then
+            same "$first; $(side_by_side)" 'rule edition 1; 2 gives the same; rule edition  2; 1 gives the same' "no difference at $wlh, $wdly"
+        else
+            same "$first" "rule edition 1, as above 2
+ VLINE ${ticks1[wlh]} ticks ${ticks2[wlh]} ticks
+ delay ${ticks1[wdly]} ticks ${ticks2[wdly]} ticks
+ line $one ticks $two ticks
+ frame $((2 * one)) ticks $((2 * two)) ticks" "both of WLH $wlh and WDLY $wdly"
+        fi
+    done
+done
+
+# JSON
+run "$example" --json
+same "$(json '[.counts, .millihertz.frame, .stn_line]')" \
+    '[{"clocks":9600,"hclk":1674240,"mhz":59728,"edition":1},59728,{"ticks":6976,"vline":128,"delay":128,"blank":80,"nanoseconds":69760,"edition":1}]' \
+    'rule edition 1 as JSON'
+run "$example" --json --edition 2
+same "$(json '[.counts, .millihertz.frame, .stn_line]')" \
+    '[{"clocks":9600,"hclk":1643520,"mhz":60845,"edition":2},60845,{"ticks":6848,"vline":64,"delay":64,"blank":80,"nanoseconds":68480,"edition":2}]' \
+    'rule edition 2 as JSON'
+same "$(json '[.registers[2, 3].fields[] | select(.name == "WDLY" or .name == "WLH").meaning]')" \
+    '["64 ticks from VLINE to VCLK by rule edition 2","64 ticks of VLINE by rule edition 2"]' 'the fields by rule edition 2 as JSON'
+run --words 145 4000 80103 2 8 18000000 8 4 0 --hclk 1000000 --json --edition 2
+same "$(json '[.refusal, .counts, .millihertz.line, .stn_line.ticks, .stn_line.edition]')" '[17,null,9259259,108,2]' 'of refused words as JSON'
+
+# frames: 224 ticks at 1 MHz are 7/31250 s; 1643520 at 100 MHz are 1284/78125, for which 271/16489 is nearest
+run grey.dump --animate 2 -o two.png --edition 2
+same "$status $(sed -n 3p out)" '0 2 frames from number 0 on, 7/31250 s each by rule edition 2' "a frame's time by rule edition 2"
+same "$(png head two.png)" "16 by 2 of 1 frames 2 delays ['7/31250']" 'in the chunks too'
+same "$(lines=2 png values two.png)" "$(python3 due.py 0 1)" 'the frames are the same'
+run "$example" --frame 7 --animate 3 -o three2.png --edition 2 --json
+same "$(png head three2.png) $(json .frame_delay)" "320 by 240 of 1 frames 3 delays ['271/16489'] [271,16489]" 'three frames of an example by rule edition 2'
+same "$(lines=3 png values three2.png | md5sum)" "$(lines=3 png values three.png | md5sum)" 'and the frames of the example'
+run still.dump --animate 2 -o two.png --edition 2
+same "$(sed -n 3p out)" '2 frames from number 0 on, 1/60 s each, since there is no HCLK' 'no edition in a time that has none'
+
+# several, and beside another dump
+run stn320x240-grey.dump "$td.dump" stn640x480-mono.dump still.dump refused.dump short.dump --edition 2
+same "$status: $(sed 's/  */ /g; s/^[^ ]*//' out)" '1:  320 by 240 greys 60.845 Hz accepted rate by rule edition 2
+ 240 by 320 16 bits 109.553 Hz accepted
+ 640 by 480 mono 61.130 Hz accepted rate by rule edition 2
+ 16 by 2 greys no rate accepted
+ 16 by 2 greys no rate refused 17
+ refused 14' 'several by rule edition 2'
+stn_dump "${stn/245/244}" f4240 "$levels" > off.dump
+run off.dump short.dump
+same "$(sed 's/  */ /g; s/^[^ ]*//' out)" ' 16 by 2 greys 3.906 kHz refused 9 rate by rule edition 1
+ refused 14' 'a refused dump that has a rate'
+run stn320x240-grey.dump stn640x480-mono.dump --golden-dir "$examples" --edition 2
+same "$status: $(sed 's/.*accepted  //' out)" '0: equal  rate by rule edition 2
+equal  rate by rule edition 2' 'golden pictures by rule edition 2'
+run stn320x240-grey.dump "$td.dump" stn640x480-mono.dump --json --edition 2
+same "$(jq -c '[.dumps[].counts | [.mhz, .edition]]' out)" '[[60845,2],[109553,null],[61130,2]]' 'several as JSON by rule edition 2'
+run else.dump --against grey.dump --edition 2
+same "$(grep '^  LCDCON.* W[DL]' out | sed 's/   */  /g')" \
+    '  LCDCON3  WDLY  1, 32 ticks from VLINE to VCLK by rule edition 2  ->  3, 64 ticks from VLINE to VCLK by rule edition 2
+  LCDCON4  WLH  2, 48 ticks of VLINE by rule edition 2  ->  3, 64 ticks of VLINE by rule edition 2' 'two dumps by rule edition 2'
+run "$td.dump" --against grey.dump --edition 2
+says 'LCDCON4 HSPW 2, WLH 2: 48 ticks of VLINE by rule edition 2 -> 9, 10 clocks of HSYNC' 'the other dump by rule edition 2'
+
+# What is printed and written with an edition, beside what is without one: the same to the last byte.
+seen() { # arguments; what they write is none.out
+    rm -f none.out
+    run "$@"
+    echo "$status"
+    cat out err
+    [ ! -e none.out ] || md5sum none.out
+    rm -f none.out
+}
+alike() { # name, edition, arguments
+    local name=$1 edition=$2
+    shift 2
+    same "$(seen "$@" --edition "$edition")" "$(seen "$@")" "$name with --edition $edition: $*"
+}
+everywhere() { # name, edition, dump: whatever can be asked of it
+    alike "$1" "$2" "$3"
+    alike "$1" "$2" "$3" --registers
+    alike "$1" "$2" "$3" --json
+    alike "$1" "$2" "$3" -o none.out
+    alike "$1" "$2" "$3" --against "$examples/lq64d343-1.dump"
+    alike "$1" "$2" "$3" "$td.dump" short.dump
+    alike "$1" "$2" "$3" "$td.dump" --json
+}
+patch "$td.dump" 0 0x7e > tft.dump
+for edition in 1 2; do
+    for dump in "$t1" "$examples"/[alt]*.dump other.dump tft.dump; do everywhere 'a TFT panel' $edition "$dump"; done
+    for card in '240 320 16' '64 32 8' '1 1 24'; do alike 'a TFT card' $edition --testcard $card -o none.out; done
+    alike 'words of a TFT panel' $edition --words $t9 --hclk 100000000 --registers
+    alike 'words of a TFT panel' $edition --words $t9
+done
+for dump in grey.dump mono.dump refused.dump off.dump still.dump "$example"; do everywhere 'rule edition 1 is the default' 1 "$dump"; done
+alike 'rule edition 1 is the default' 1 grey.dump --frame 3 --animate 4 -o none.out
+alike 'rule edition 1 is the default' 1 --testcard 320 240 grey -o none.out
+alike 'rule edition 1 is the default' 1 --words $given --hclk 60000000 --registers
+# an STN panel's picture, one frame of it and its dump have no edition
+for option in '-o none.png' '--frame 9 -o none.png' '-o none.dump'; do
+    run "$example" $option
+    md5sum none.* > before && rm none.*
+    run "$example" $option --edition 2
+    same "$status $(md5sum none.*)" "0 $(cat before)" "an STN panel with $option by rule edition 2"
+    rm none.*
+done
+gives 0 "$due2" grey.dump --edition 2 --compare eye.png
+same "$(tail -n 1 out)" 'equal: 32 pixels' 'what the eye sees by rule edition 2'
+
+# what is no edition
+for number in 0 3 01 02 1x x '' -1 +1 1.0 ' 1' '2 ' 0x1 0x2 10 12 27 4294967297 4294967298 18446744073709551617; do
+    wrong "--edition: the rule edition ${number:-''} is neither 1 nor 2" grey.dump --edition "$number" -o none.png
+done
+wrong '--edition: the rule edition 0 is neither 1 nor 2' "$td.dump" --edition 0 -o none.png
+wrong '--edition: the rule edition 3 is neither 1 nor 2' grey.dump mono.dump --edition 3 --json
+wrong '--edition: the rule edition 3 is neither 1 nor 2' --words $stn --edition 3
+wrong '--edition: the rule edition 3 is neither 1 nor 2' --testcard 64 64 grey -o none.dump --edition 3
+wrong '--edition: a number is missing' grey.dump -o none.png --edition
+wrong '--edition: a number is missing' grey.dump --edition --json
+wrong '--edition: given twice' grey.dump --edition 2 --edition 2 -o none.png
+wrong '--edition: given twice' grey.dump --edition 1 --edition 2
+wrong 'DUMP: missing' --edition 2
+same "$(files 'none*')" '' 'nothing is written where there is no such edition'
+run --help
+says '--edition 1|2 ' 'the option in the help'
+
 # ---- test cards
 
 run --testcard 64 64 grey -o card.dump
@@ -505,6 +711,15 @@ run card.dump -o card.png
 values=$(png values card.png)
 same "$(printf '%s' "${values:$((128 * 4 + 6)):32}")" 00ff00ff00ff00ff00ff00ff00ff00ff 'stripes of one pixel'
 same "$(printf '%s' "$values" | fold -w 2 | sort -u | xargs)" '00 ff' 'mono is black and white'
+# CLKVAL for a rate near 60 Hz: lines of 80 x CLKVAL + 336 ticks by rule edition 1, 80 x CLKVAL + 208 by 2
+run --testcard 320 240 grey -o card.dump
+same "$(sed 's/.*; //' out) $(cmp card.dump "$example" 2>&1)" 'CLKVAL by rule edition 1 ' 'the card of an example'
+gives 0 'clocks 9600 hclk 1674240 mhz 59728' card.dump
+run --testcard 320 240 grey -o card.dump --edition 2
+same "$(sed 's/.*; //' out)" 'CLKVAL by rule edition 2' 'a card by rule edition 2'
+gives 0 'clocks 9600 hclk 1662720 mhz 60142' card.dump --edition 2
+says '60.142 Hz by rule edition 2, 595.238 kHz clock of 8 pixels' 'CLKVAL 84'
+same "$(cmp -l card.dump "$example" | wc -l)" 1 'nothing else of the card'
 for card in '8 1 grey' '32 1 mono' '16384 1024 mono' '8184 1024 grey'; do
     run --testcard $card -o card.dump
     same "$status" 0 "a card of $card"

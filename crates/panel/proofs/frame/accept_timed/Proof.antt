@@ -14,7 +14,7 @@ unfolding acceptTimed
 returns c =
     let start = c .before .before .before .before .before .before in
     let nine = c .before .before .w .given in
-    goes-on (accept (now (start .args .words))) timedWords (nine .0 .0) _
+    goes-on (accept (now (start .args .words))) (λ w. timedWords w (start .args .edition)) (nine .0 .0) _
     (sym (ap loaded (nine .1)) ∙ c .before .before .before .before .accept .ensures)
     (c .timed-words .ensures)
 
@@ -23,7 +23,7 @@ unfolding acceptTimed
 returns-2 c =
     let start = c .before .before .before .before .before in
     let n = c .before .n .given in
-    passes-on (accept (now (start .args .words))) timedWords (n .0 .0)
+    passes-on (accept (now (start .args .words))) (λ w. timedWords w (start .args .edition)) (n .0 .0)
     (sym (ap loaded (n .1)) ∙ c .before .before .before .accept .ensures)
 
 pub accept-timed-spec : {M : Type 1} → statement M

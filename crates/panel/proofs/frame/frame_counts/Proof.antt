@@ -13,7 +13,8 @@ unfolding counts
 returns c =
     let at-match = c .before .before .before .before in
     let nine = c .before .before .before .w .given in
-    maps countsOf (acceptTimed (now (at-match .before .before .before .args .words))) (nine .0 .0) _
+    let start = at-match .before .before .before in
+    maps (λ w. countsOf w (start .args .edition)) (acceptTimed (now (start .args .words)) (start .args .edition)) (nine .0 .0) _
     (sym (ap loaded (nine .1)) ∙ at-match .before .accept-timed .ensures)
     (rw (c .before .panel-clocks .ensures, c .panel-ticks .ensures))
 
@@ -22,7 +23,7 @@ unfolding counts
 returns-2 c =
     let start = c .before .before .before .before .before in
     let n = c .before .n .given in
-    maps-refusal countsOf (acceptTimed (now (start .args .words))) (n .0 .0)
+    maps-refusal (λ w. countsOf w (start .args .edition)) (acceptTimed (now (start .args .words)) (start .args .edition)) (n .0 .0)
     (sym (ap loaded (n .1)) ∙ c .before .before .before .accept-timed .ensures)
 
 pub frame-counts-spec : {M : Type 1} → statement M

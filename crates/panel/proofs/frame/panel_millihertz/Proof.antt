@@ -6,7 +6,7 @@ use Rattle.panel.proofs.frame.panel_millihertz.Statement.{statement}
 use Rattle.panel.proofs.frame.panel_millihertz.Tie as tie
 
 div-result : tie.Need-div-result
-div-result c = omega (arith, panel-ticks-ge (c .before .args .w))
+div-result c = omega (arith, panel-ticks-ge (c .before .args .w) (c .before .args .edition))
 
 returns : tie.Need-returns
 returns c = rw (c .panel-ticks .ensures)

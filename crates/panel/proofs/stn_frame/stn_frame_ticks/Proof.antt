@@ -9,7 +9,8 @@ use Rattle.panel.proofs.stn_frame.stn_frame_ticks.Tie as tie
 
 mul-result : tie.Need-mul-result
 mul-result c =
-    let bound = stn-line-ticks-le (c .before .before .args .w) in
+    let args = c .before .before .args in
+    let bound = stn-line-ticks-le (args .w) (args .edition) in
     omega (arith, product-le (c .before .height .result) 1024 (c .stn-line-ticks .result) 4192504 (omega arith) (omega arith))
 
 returns : tie.Need-returns
