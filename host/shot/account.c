@@ -181,14 +181,14 @@ static void say_both_rates(const struct readings *r, uint64_t here, uint64_t oth
 
 /* Where the library gives the same by both, one account will do. */
 static void say_editions(const struct readings *r) {
-    uint32_t edition = r->dump->edition, beside = 3 - edition, lines = r->sizes[LCD_SIZE_FRAME];
-    struct stn_pauses here = stn_pauses_of(r, edition), other = stn_pauses_of(r, beside);
-    uint64_t line = line_ticks(r, edition), other_line = line_ticks(r, beside);
+    uint32_t edition = r->dump->edition, other_edition = 3 - edition, lines = r->sizes[LCD_SIZE_FRAME];
+    struct stn_pauses here = stn_pauses_of(r, edition), other = stn_pauses_of(r, other_edition);
+    uint64_t line = line_ticks(r, edition), other_line = line_ticks(r, other_edition);
     if (here.vline == other.vline && here.delay == other.delay && line == other_line) {
-        say("rule edition  %" PRIu32 "; %" PRIu32 " gives the same\n", edition, beside);
+        say("rule edition  %" PRIu32 "; %" PRIu32 " gives the same\n", edition, other_edition);
         return;
     }
-    say("rule edition  %" PRIu32 ", as above       %" PRIu32 "\n", edition, beside);
+    say("rule edition  %" PRIu32 ", as above       %" PRIu32 "\n", edition, other_edition);
     say_both_ticks("VLINE", here.vline, other.vline);
     say_both_ticks("delay", here.delay, other.delay);
     say_both_ticks("line", line, other_line);

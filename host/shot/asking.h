@@ -13,7 +13,8 @@ struct judging {
     struct readings now;
 };
 
-/* What drawing the dump with these words gives, 0 or 1 to 9; for words alone what counting gives, 0 or 1 to 7. On STN also 17. */
+/* What drawing the dump with these words gives, 0 or 1 to 9; for words alone what counting gives, 0 or 1 to 7. On STN also 17;
+ * never 27, since the dump has a rule edition. */
 uint32_t judge(const struct dump *d, const uint32_t *words);
 
 /* The first and the last byte of the picture in memory, as the library judges it; false where 1 to 7 refuse the words. */

@@ -50,42 +50,39 @@ static void say_mode(const struct shot *s) {
         say("%2" PRIu32 " %-4s", bits, bits == 1 ? "bit" : "bits");
 }
 
-/* The rate; false where there is none. */
-static bool rate_of(const struct dump *d, char *rate) {
+/* Returns whether there is a rate. */
+static bool say_facts(const struct shot *s) {
     uint64_t counts[3];
-    if (!d->hclk || lcd_counts(d->words, LCD_REGISTERS, d->edition, d->hclk, counts, 3))
-        return false;
-    rate_text(counts[2], rate);
-    return true;
-}
-
-static void say_facts(const struct shot *s) {
     char rate[MEANING] = "no rate";
-    rate_of(&s->dump, rate);
+    const struct dump *d = &s->dump;
+    bool rated = d->hclk && !lcd_counts(d->words, LCD_REGISTERS, d->edition, d->hclk, counts, 3);
+    if (rated)
+        rate_text(counts[2], rate);
     say("  %4" PRIu32 " by %-4" PRIu32 "  ", s->readings.sizes[LCD_SIZE_WIDTH], s->readings.sizes[LCD_SIZE_HEIGHT]);
     say_mode(s);
     say("  %12s", rate);
+    return rated;
 }
 
 /* What is to be known of the panel besides. */
-static void say_remarks(const struct shot *s) {
-    char rate[MEANING];
+static void say_remarks(const struct shot *s, bool rated) {
     if (!s->refusal && !s->readings.fields[LCD_PWREN])
         say("  dark: PWREN is 0");
     if (!s->refusal && s->readings.fields[LCD_INVVD])
         say("  negative: INVVD is 1");
-    if (s->refusal != 14 && is_stn(s->dump.words) && rate_of(&s->dump, rate))
+    if (rated && is_stn(s->dump.words))
         say("  rate%s", by_edition(&s->dump));
 }
 
 static void say_line(const struct shot *s, int width) {
+    bool rated = false;
     print_name(report_stream(), s->name, width);
     if (s->error) {
         say("  error: %s\n", s->error);
         return;
     }
     if (s->refusal != 14)
-        say_facts(s);
+        rated = say_facts(s);
     if (s->refusal)
         say("  refused %" PRIu32, s->refusal);
     else
@@ -100,7 +97,7 @@ static void say_line(const struct shot *s, int width) {
         say("  differs: %zu of %zu pixels", s->comparison.differ, s->comparison.all);
     else if (s->compared)
         say("  differs in size");
-    say_remarks(s);
+    say_remarks(s, rated);
     say("\n");
 }
 

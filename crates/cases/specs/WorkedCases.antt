@@ -19,7 +19,8 @@ use Rattle.fields.specs.Writing.{write, fieldTooWide}
 use Rattle.fields.specs.declared.Fields.{Fields}
 use Rattle.panel.specs.Counts.{acceptTimed, timedWords, counts, rate, frameTicks, panelClocks, panelTicks}
 use Rattle.panel.specs.Geometry.{width, height, storedBits, outsideModes, panelBits, panelWidth, rowOffset}
-use Rattle.panel.specs.Refusals.{judge, judgeEither, accept, notTft, neitherPanel, noSuchMode, swapsIllegal, rowSizeWrong, endDiffers, pastBank, videoOff, clockTooFast, noSuchEdition, judgeTimed}
+use Rattle.panel.specs.Refusals.{judge, judgeEither, judgeTimed, accept, videoOff, clockTooFast, noSuchEdition}
+use Rattle.panel.specs.Refusals.{notTft, neitherPanel, noSuchMode, swapsIllegal, rowSizeWrong, endDiffers, pastBank}
 use Rattle.panel.specs.Timing.{lineClocks, frameLines, frameClocks}
 use Rattle.panel.specs.declared.frame.Counts.{Counts}
 use Rattle.panel.proofs.Examples as Panel

@@ -1,10 +1,11 @@
 -- A colour has the 24 lines VD23..VD0 and no more (§5.5), whatever the words, memory and palette.
-use mathlib.Core.Bool.{Bool, true, false, cond}
+use mathlib.Core.Bool.{Bool, true, false}
 use mathlib.Core.List.{List}
 use Prim.Native.Nat.{ℕ, _^_, _<_}
 use native.Mathlib.Omega.{arith}
 use lib.Dec.{eqb}
 use lib.ListN.{getD}
+use Rattle.laws.specs.BooleanLaws.{either-way}
 use Rattle.pixels.specs.Colours.{expanded, expanded565, expanded5551, cut24}
 use Rattle.pixels.specs.Format.{format}
 use Rattle.pixels.specs.Pixel.{indexed, shown}
@@ -29,24 +30,16 @@ cut-lines false v = omega arith
 
 shown-lines : (f : Format) (palette : List ℕ) (v : ℕ) → shown f (indexed f palette) v < 2 ^ 24
 unfolding shown
-shown-lines f palette v = go (eqb (f .bits) 32) (eqb (f .bits) 16)
-  where
-    go : (a b : Bool)
-        → cond a (cut24 (f .bpp24bl) v) (cond b (expanded (f .expansion) v) (expanded (f .expansion) (getD palette v 0))) < 2 ^ 24
-    go true b = cut-lines (f .bpp24bl) v
-    go false true = expanded-lines (f .expansion) v
-    go false false = expanded-lines (f .expansion) (getD palette v 0)
+shown-lines f palette v =
+    either-way (λ k. k < 2 ^ 24) (eqb (f .bits) 32) (cut-lines (f .bpp24bl) v)
+    (either-way (λ k. k < 2 ^ 24) (eqb (f .bits) 16) (expanded-lines (f .expansion) v) (expanded-lines (f .expansion) (getD palette v 0)))
 
 pub colour-lines : (s : Screen) (l : Lent) (r c : ℕ) → colour s l r c < 2 ^ 24
 unfolding colour rowColour format
-colour-lines s l r c = go (f .tpalen)
+colour-lines s l r c = either-way (λ k. k < 2 ^ 24) (f .tpalen) (omega arith) (shown-lines f (l .palette) stored)
   where
     f : Format
     f = format (s .words)
 
     stored : ℕ
     stored = storedPixel (f .bits) (f .bswp) (f .hwswp) (l .memory) (firstWord s r) c
-
-    go : (b : Bool) → cond b (tpalval (s .words)) (shown f (indexed f (l .palette)) stored) < 2 ^ 24
-    go true = omega arith
-    go false = shown-lines f (l .palette) stored

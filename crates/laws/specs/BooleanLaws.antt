@@ -76,7 +76,14 @@ one-below (suc n) p i h t = go (ℕ-discrete i n) (λ l. one-below n p i l t)
     go (yes e) below = rw (← e, t)
     go (no ne) below = ap (λ (b : Bool). p n || b) (below (omega arith)) ∙ or-true (p n)
 
--- ---- a branch: what it gives, where its test r is that of a choice
+-- ---- a choice
+
+-- what holds of both holds of the one that is chosen
+pub either-way : {A : Type 0} (P : A → Type 0) (b : Bool) {x y : A} → P x → P y → P (cond b x y)
+either-way P true p q = p
+either-way P false p q = q
+
+-- a branch: what it gives, where its test r is that of a choice
 
 pub chosen : {A : Type 0} {r b : Bool} {v x : A} (y : A) → r ≡ b → r ≡ true → v ≡ x → v ≡ cond b x y
 chosen {x} y e t p = p ∙ ap (λ (k : Bool). cond k x y) (sym t ∙ e)

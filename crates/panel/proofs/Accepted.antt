@@ -7,7 +7,7 @@ use native.Mathlib.Nat.{mul-le-mul-right, mul-mod-left, mul-assoc, mul-comm, eq-
 use native.Mathlib.Omega.{arith}
 use borrow.Author.Tests.{eqb-true, eqb-false, ltb-false, not-false, eq-eqb, ne-eqb}
 use lib.Dec.{eqb}
-use Rattle.laws.specs.BooleanLaws.{and-never, or-false-left, or-false-right}
+use Rattle.laws.specs.BooleanLaws.{and-never, or-false-left, or-false-right, either-way}
 use Rattle.laws.specs.ProductLaws.{product-le}
 use Rattle.laws.specs.CaseLaws.{NoneHolds, lowest-zero-none-holds}
 use Rattle.registers.specs.Fields.{pnrmode, bppmode, bswp, hwswp, lcdbaseu, lcdbasel, pagewidth, offsize, stn, reservedBit}
@@ -209,11 +209,8 @@ module _ (w : Words) (a : Laid w) where
   pub row-has-words : 2 ≤ pagewidth w
   unfolding panelWidth
   row-has-words =
-      omega (arith, a .row-bits, a .row-even, product-le 1 (panelWidth w) 1 (panelBits w) (go (stn w)) (a .some-bits))
-    where
-      go : (b : Bool) → 1 ≤ cond b (stnWidth w) (width w)
-      go true = omega arith
-      go false = omega arith
+      let some : 1 ≤ panelWidth w = either-way (λ k. 1 ≤ k) (stn w) (omega arith) (omega arith) in
+      omega (arith, a .row-bits, a .row-even, product-le 1 (panelWidth w) 1 (panelBits w) some (a .some-bits))
 
   -- every row lies inside the bank
   pub row-inside-bank : (r : ℕ) → r < height w → rowOffset w r + pagewidth w ≤ 2 ^ 21

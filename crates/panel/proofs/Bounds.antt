@@ -1,13 +1,13 @@
 -- Bounds of every size that the fields can give, whatever the words (§2.1, §2.3, §3.2, §6.1 to §6.3, §6.8), so that nothing overflows.
-use mathlib.Core.Bool.{Bool, true, false, cond}
 use Prim.Native.Nat.{ℕ, _+_, _*_, _<_, _≤_, _^_}
 use native.Mathlib.Omega.{arith}
 use lib.Dec.{eqb}
 use lib.Pow.{pow-mono}
+use Rattle.laws.specs.BooleanLaws.{either-way}
 use Rattle.laws.specs.ProductLaws.{product-le}
 use Rattle.registers.specs.Fields.{clkval, hozval, wlh, wdly, stn}
 use Rattle.registers.specs.declared.Words.{Words}
-use Rattle.panel.specs.Counts.{frameTicks, pulse, laterPulse, editionPulse, stnLineTicks, stnFrameTicks, panelTicks}
+use Rattle.panel.specs.Counts.{frameTicks, pulse, editionPulse, stnLineTicks, stnFrameTicks, panelTicks}
 use Rattle.panel.specs.Geometry.{width, height, stnWidth, panelWidth, pitch, rowOffset}
 use Rattle.panel.specs.Timing.{timing, lineClocks, frameLines, frameClocks}
 
@@ -21,11 +21,7 @@ height-le w = omega arith
 
 pub panel-width-le : (w : Words) → panelWidth w ≤ 16384
 unfolding panelWidth
-panel-width-le w = go (stn w)
-  where
-    go : (b : Bool) → cond b (stnWidth w) (width w) ≤ 16384
-    go true = omega arith
-    go false = omega arith
+panel-width-le w = either-way (λ k. k ≤ 16384) (stn w) (omega arith) (omega arith)
 
 pub pitch-le : (w : Words) → pitch w ≤ 4094
 pitch-le w = omega arith
@@ -83,20 +79,13 @@ pulse-ge n = pow-mono (above n)
     above k = omega arith
 
 module _ (edition n : ℕ) where
-  -- what holds by both rule editions holds by the one given
-  by-either : (P : ℕ → Type 0) → P (laterPulse n) → P (pulse n) → P (editionPulse edition n)
-  unfolding editionPulse
-  by-either P later first = go (eqb edition 2)
-    where
-      go : (b : Bool) → P (cond b (laterPulse n) (pulse n))
-      go true = later
-      go false = first
-
   pub edition-pulse-le : n < 4 → editionPulse edition n ≤ 128
-  edition-pulse-le h = by-either (λ ticks. ticks ≤ 128) (omega arith) (pulse-le n h)
+  unfolding editionPulse
+  edition-pulse-le h = either-way (λ k. k ≤ 128) (eqb edition 2) (omega arith) (pulse-le n h)
 
   edition-pulse-ge : 16 ≤ editionPulse edition n
-  edition-pulse-ge = by-either (λ ticks. 16 ≤ ticks) (omega arith) (pulse-ge n)
+  unfolding editionPulse
+  edition-pulse-ge = either-way (λ k. 16 ≤ k) (eqb edition 2) (omega arith) (pulse-ge n)
 
 pub stn-data-le : (w : Words) → 2 * clkval w * (hozval w + 1) ≤ 4190208
 stn-data-le w = product-le (2 * clkval w) 2046 (hozval w + 1) 2048 (omega arith) (omega arith)
@@ -120,8 +109,4 @@ module _ (w : Words) (edition : ℕ) where
 
 pub panel-ticks-ge : (w : Words) (edition : ℕ) → 32 ≤ panelTicks w edition
 unfolding panelTicks
-panel-ticks-ge w edition = go (stn w)
-  where
-    go : (b : Bool) → 32 ≤ cond b (stnFrameTicks (editionPulse edition) w) (frameTicks w)
-    go true = stn-frame-ticks-ge w edition
-    go false = frame-ticks-ge w
+panel-ticks-ge w edition = either-way (λ k. 32 ≤ k) (stn w) (stn-frame-ticks-ge w edition) (frame-ticks-ge w)

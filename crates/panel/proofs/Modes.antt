@@ -8,6 +8,7 @@ use borrow.Author.Tests.{lt-leb, le-leb, leb-true, not-false}
 use lib.Dec.{T, leb, ltb, eqb, leb→le, ltb→lt, eqb→eq}
 use Rattle.laws.specs.Answers.{accepted, refused}
 use Rattle.laws.specs.AnswerLaws.{one-accepted, one-refused}
+use Rattle.laws.specs.BooleanLaws.{either-way}
 use Rattle.laws.specs.TableLaws.{every, entry-passes}
 use Rattle.registers.specs.Fields.{bppmode, stn}
 use Rattle.registers.specs.declared.Words.{Words}
@@ -97,17 +98,10 @@ stn-bits-pos mode o = go (eqb mode 0) (eqb mode 2) o
 
 pub stn-bits-le : (mode : ℕ) → stnBits mode ≤ 4
 unfolding stnBits
-stn-bits-le mode = go (eqb mode 0) (eqb mode 2)
-  where
-    go : (mono greys : Bool) → bitsBy mono greys ≤ 4
-    go true greys = omega arith
-    go false true = omega arith
-    go false false = omega arith
+stn-bits-le mode =
+    either-way (λ k. k ≤ 4) (eqb mode 0) (omega arith) (either-way (λ k. k ≤ 4) (eqb mode 2) (omega arith) (omega arith))
 
 pub panel-bits-le : (w : Words) → panelBits w ≤ 32
 unfolding panelBits
-panel-bits-le w = go (stn w)
-  where
-    go : (b : Bool) → cond b (stnBits (bppmode w)) (storedBits (bppmode w)) ≤ 32
-    go true = omega (arith, stn-bits-le (bppmode w))
-    go false = stored-bits-le (bppmode w)
+panel-bits-le w =
+    either-way (λ k. k ≤ 32) (stn w) (omega (arith, stn-bits-le (bppmode w))) (stored-bits-le (bppmode w))

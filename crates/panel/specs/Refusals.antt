@@ -103,7 +103,7 @@ clockTooFast w = stn w && ltb (clkval w) 2
 unfoldable pub noSuchEdition : ℕ → Bool
 noSuchEdition edition = not (eqb edition 1 || eqb edition 2)
 
--- for a call that gives a frame's length or rate, after all else: 17, then 27, on TFT words too (§9.3)
+-- for a call that gives a frame's length or rate, after all else: 17, then 27, which is asked of TFT words too (§9.3)
 abbrev pub timedCases : Words → ℕ → List Case
 timedCases w edition = 17 when clockTooFast w ∷ 27 when noSuchEdition edition ∷ []
 

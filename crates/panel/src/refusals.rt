@@ -1,5 +1,6 @@
-// Refusals 1 to 7, 9 and 17, which the words alone decide (§9.1). Each condition has a function of its own; `judge` goes through 1 to 7
-// for a call that takes TFT panels, `judge_stn` for one that takes STN panels, `judge_either` for one that takes both (§9.3).
+// Refusals 1 to 7, 9 and 17, which the words alone decide, and 27, which the rule edition does (§9.1). Each condition has a function of
+// its own; `judge` goes through 1 to 7 for a call that takes TFT panels, `judge_stn` for one that takes STN panels, `judge_either` for one
+// that takes both, and `judge_timed` through 17 and 27 (§9.3).
 ghost use mathlib.Core.Path.{_≡_};
 ghost use Rattle.laws.specs.Answers.{judged};
 ghost use Rattle.laws.specs.Cases.{lower, andWhere};
@@ -159,13 +160,8 @@ pub fn no_such_edition(edition: u32) -> bool
 pub fn judge_timed(w: Words, edition: u32) -> u32
     ensures { λ r. ⌜ r ≡ judgeTimed w edition ⌝ }
 {
-    if clock_too_fast(w) {
-        return 17;
-    }
-    if no_such_edition(edition) {
-        return 27;
-    }
-    0
+    let to_17 = and_where(0, clock_too_fast(w), 17);
+    and_where(to_17, no_such_edition(edition), 27)
 }
 
 // Refusal 9 (§9.1): video is off.

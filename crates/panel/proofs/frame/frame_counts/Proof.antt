@@ -13,17 +13,17 @@ unfolding counts
 returns c =
     let at-match = c .before .before .before .before in
     let nine = c .before .before .before .w .given in
-    let start = at-match .before .before .before in
-    maps (λ w. countsOf w (start .args .edition)) (acceptTimed (now (start .args .words)) (start .args .edition)) (nine .0 .0) _
+    let args = at-match .before .before .before .args in
+    maps (λ w. countsOf w (args .edition)) (acceptTimed (now (args .words)) (args .edition)) (nine .0 .0) _
     (sym (ap loaded (nine .1)) ∙ at-match .before .accept-timed .ensures)
     (rw (c .before .panel-clocks .ensures, c .panel-ticks .ensures))
 
 returns-2 : tie.Need-returns-2
 unfolding counts
 returns-2 c =
-    let start = c .before .before .before .before .before in
+    let args = c .before .before .before .before .before .args in
     let n = c .before .n .given in
-    maps-refusal (λ w. countsOf w (start .args .edition)) (acceptTimed (now (start .args .words)) (start .args .edition)) (n .0 .0)
+    maps-refusal (λ w. countsOf w (args .edition)) (acceptTimed (now (args .words)) (args .edition)) (n .0 .0)
     (sym (ap loaded (n .1)) ∙ c .before .before .before .accept-timed .ensures)
 
 pub frame-counts-spec : {M : Type 1} → statement M

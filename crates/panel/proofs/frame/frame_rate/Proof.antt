@@ -11,18 +11,18 @@ use Rattle.panel.proofs.frame.frame_rate.Tie as tie
 returns : tie.Need-returns
 unfolding rate
 returns c =
-    let start = c .before .before .before .before .before .before in
+    let args = c .before .before .before .before .before .before .args in
     let nine = c .before .before .w .given in
-    maps (λ w. panelMillihertz w (start .args .edition) (start .args .hclk)) (acceptTimed (now (start .args .words)) (start .args .edition)) (nine .0 .0) _
+    maps (λ w. panelMillihertz w (args .edition) (args .hclk)) (acceptTimed (now (args .words)) (args .edition)) (nine .0 .0) _
     (sym (ap loaded (nine .1)) ∙ c .before .before .before .before .accept-timed .ensures)
     (c .panel-millihertz .ensures)
 
 returns-2 : tie.Need-returns-2
 unfolding rate
 returns-2 c =
-    let start = c .before .before .before .before .before in
+    let args = c .before .before .before .before .before .args in
     let n = c .before .n .given in
-    maps-refusal (λ w. panelMillihertz w (start .args .edition) (start .args .hclk)) (acceptTimed (now (start .args .words)) (start .args .edition)) (n .0 .0)
+    maps-refusal (λ w. panelMillihertz w (args .edition) (args .hclk)) (acceptTimed (now (args .words)) (args .edition)) (n .0 .0)
     (sym (ap loaded (n .1)) ∙ c .before .before .before .accept-timed .ensures)
 
 pub frame-rate-spec : {M : Type 1} → statement M
