@@ -10,7 +10,6 @@ use Rattle.pixels.specs.Colours.{expanded, expanded565, expanded5551, cut24}
 use Rattle.pixels.specs.Format.{format}
 use Rattle.pixels.specs.Pixel.{indexed, shown}
 use Rattle.pixels.specs.declared.format.Format.{Format}
-use Rattle.registers.specs.Fields.{tpalval}
 use Rattle.memory.specs.Memory.{firstWord}
 use Rattle.memory.specs.declared.Screen.{Screen}
 use Rattle.pixels.specs.declared.colours.Expansion.{Expansion}

@@ -83,8 +83,7 @@ pub either-way : {A : Type 0} (P : A → Type 0) (b : Bool) {x y : A} → P x �
 either-way P true p q = p
 either-way P false p q = q
 
--- a branch: what it gives, where its test r is that of a choice
-
+-- what a branch gives, where its test r is that of a choice
 pub chosen : {A : Type 0} {r b : Bool} {v x : A} (y : A) → r ≡ b → r ≡ true → v ≡ x → v ≡ cond b x y
 chosen {x} y e t p = p ∙ ap (λ (k : Bool). cond k x y) (sym t ∙ e)
 

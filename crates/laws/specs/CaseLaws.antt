@@ -9,7 +9,7 @@ use native.Mathlib.Decide.{ℕ-discrete}
 use native.Mathlib.Nat.{lt-trans}
 use native.Mathlib.Omega.{arith}
 use lib.Dec.{leb, leb→le, ltb, ltb→lt, T}
-use Rattle.laws.specs.BooleanLaws.{and-left, and-right, and-both}
+use Rattle.laws.specs.BooleanLaws.{and-left, and-right, and-both, either-way}
 use Rattle.laws.specs.Cases.{Case, _when_, lower, lowest, andWhere}
 
 -- ---- the first that holds, which is how a program looks for the lowest
@@ -232,11 +232,10 @@ lower-le (suc a) (suc b) n h k = omega arith
 lowest-up-to : (n : ℕ) (cs : List Case) → T (upTo n cs) → lowest cs ≤ n
 unfolding lowest
 lowest-up-to n [] t = omega arith
-lowest-up-to n (c ∷ cs) t = go (c .holds) (lowest-up-to n cs (and-right (leb (c .number) n) (upTo n cs) t))
-  where
-    go : (b : Bool) → lowest cs ≤ n → cond b (lower (c .number) (lowest cs)) (lowest cs) ≤ n
-    go true h = lower-le (c .number) (lowest cs) n (leb→le (c .number) n (and-left (leb (c .number) n) (upTo n cs) t)) h
-    go false h = h
+lowest-up-to n (c ∷ cs) t =
+    let first = leb→le (c .number) n (and-left (leb (c .number) n) (upTo n cs) t) in
+    let rest = lowest-up-to n cs (and-right (leb (c .number) n) (upTo n cs) t) in
+    either-way (λ k. k ≤ n) (c .holds) (lower-le (c .number) (lowest cs) n first rest) rest
 
 -- where some condition of such a front holds and the rest rises from n, the front's lowest number r is the whole list's
 pub several-refuse : (r n : ℕ) (cs ds : List Case) → T (upTo n cs) → T (ascending n ds) → r ≡ lowest cs → (r ≡ 0 → ⊥)

@@ -8,7 +8,7 @@ use Rattle.laws.specs.ProductLaws.{product-le}
 use Rattle.registers.specs.Fields.{clkval, hozval, wlh, wdly, stn}
 use Rattle.registers.specs.declared.Words.{Words}
 use Rattle.panel.specs.Counts.{frameTicks, pulse, editionPulse, stnLineTicks, stnFrameTicks, panelTicks}
-use Rattle.panel.specs.Geometry.{width, height, stnWidth, panelWidth, pitch, rowOffset}
+use Rattle.panel.specs.Geometry.{width, height, panelWidth, pitch, rowOffset}
 use Rattle.panel.specs.Timing.{timing, lineClocks, frameLines, frameClocks}
 
 -- ---- the panel

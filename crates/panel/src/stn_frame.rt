@@ -1,7 +1,7 @@
 // Clocks and HCLK ticks of an STN panel's frame (§6.8), the ticks by the rule edition of its pulses. 27 is judged elsewhere: here every
 // number but 2 counts as 1.
 ghost use mathlib.Core.Path.{_≡_};
-ghost use Prim.Native.Nat.{_<_};
+ghost use Prim.Native.Nat.{_<_, _≤_};
 ghost use Rattle.panel.specs.Counts.{pulse, laterPulse, editionPulse, stnLineTicks, stnFrameClocks, stnFrameTicks};
 use super::geometry::height;
 use registers::Words;
@@ -26,6 +26,7 @@ fn later_pulse(n: u32) -> u32
 fn edition_pulse(edition: u32, n: u32) -> u32
     requires { ⌜ n < 4 ⌝ }
     ensures { λ r. ⌜ r ≡ editionPulse edition n ⌝ }
+    ensures { λ r. ⌜ r ≤ 128 ⌝ }
 {
     if edition == 2 {
         later_pulse(n)

@@ -1,12 +1,12 @@
 -- The state through a frame (§7.6): the pending viewport takes over with clock 0 and stays in force to the frame's end, and nothing but
 -- the viewport ever changes in the words.
-use mathlib.Core.Bool.{Bool, true, false, cond}
 use mathlib.Core.Path.{_≡_, refl, sym, ap, ap₂, _∙_}
 use Prim.Native.Nat.{ℕ, zero, suc, _+_, _%_, _<_, _≤_}
 use native.Mathlib.Nat.{mod-eq-of-lt}
 use native.Mathlib.Omega.{arith}
 use borrow.Author.Tests.{eq-eqb, ne-eqb}
 use lib.Dec.{eqb}
+use Rattle.laws.specs.BooleanLaws.{either-way}
 use Rattle.panel.proofs.Bounds.{frame-clocks-ge}
 use Rattle.panel.specs.Timing.{timing, frameClocks}
 use Rattle.registers.specs.declared.Words.{Words}
@@ -46,12 +46,7 @@ shown-later s ne = rw (ne-eqb (s .position) 0 ne) refl
 
 pub shown-alike : (s : State) → Alike (shownWords s) (s .screen .words)
 unfolding shownWords
-shown-alike s = go (eqb (s .position) 0)
-  where
-    go : (b : Bool)
-        → Alike (cond b (withViewport (s .screen .words) (s .pending)) (s .screen .words)) (s .screen .words)
-    go true = refl
-    go false = refl
+shown-alike s = either-way (λ shown. Alike shown (s .screen .words)) (eqb (s .position) 0) refl refl
 
 pub shown-timing : (s : State) → timing (shownWords s) ≡ timing (s .screen .words)
 shown-timing s = ap timing (shown-alike s)

@@ -1,6 +1,5 @@
 -- Which clock shows which pixel (§6.6): a position shows the pixel in row r, column c exactly where the formula gives that position.
 -- Only these laws and those of ReadingOrder open the definitions of the parts.
-use mathlib.Core.Bool.{Bool, true, false, cond}
 use mathlib.Core.Path.{_≡_, refl, sym, ap, ap₂, _∙_}
 use Prim.Native.Nat.{ℕ, _+_, _-_, _*_, _/_, _%_, _<_, _≤_}
 use native.Mathlib.Decide.{decLt}
@@ -9,6 +8,7 @@ use native.Mathlib.Omega.{arith}
 use borrow.Author.Tests.{lt-ltb, le-ltb}
 use lib.Arith.{digits-div, digits-mod, digits-lt}
 use lib.Dec.{ltb}
+use Rattle.laws.specs.BooleanLaws.{either-way}
 use Rattle.panel.specs.Timing.{Timing, lineClocks, frameLines, frameClocks}
 use Rattle.signals.specs.Parts.{partAt, linesBefore, clocksBefore, linePart, clockPart}
 use Rattle.signals.specs.Pixel.{inRow, spotOf, spotAt, pixelClock}
@@ -43,20 +43,12 @@ Idle FrontPorch = Unit
 module _ (sync before active n : ℕ) where
   pub ahead-is-idle : n < before → Idle (partAt sync before active n)
   unfolding partAt
-  ahead-is-idle h = rw (lt-ltb n before h) (go (ltb n sync))
-    where
-      go : (b : Bool) → Idle (cond b Sync BackPorch)
-      go true = tt
-      go false = tt
+  ahead-is-idle h = rw (lt-ltb n before h) (either-way Idle (ltb n sync) tt tt)
 
   pub past-is-idle : before + active ≤ n → Idle (partAt sync before active n)
   unfolding partAt
   past-is-idle h =
-      rw (le-ltb n before (omega arith), le-ltb (n - before) active (omega arith)) (go (ltb n sync))
-    where
-      go : (b : Bool) → Idle (cond b Sync FrontPorch)
-      go true = tt
-      go false = tt
+      rw (le-ltb n before (omega arith), le-ltb (n - before) active (omega arith)) (either-way Idle (ltb n sync) tt tt)
 
   pub among-is-active : (k : ℕ) → sync ≤ before → k < active → n ≡ before + k → partAt sync before active n ≡ Active k
   unfolding partAt

@@ -3,7 +3,6 @@ use Prim.Native.Nat.{_+_, _*_, _≤_}
 use native.Mathlib.Omega.{arith}
 use borrow.Author.Needs.{needs}
 use Rattle.laws.specs.ProductLaws.{product-le}
-use Rattle.panel.proofs.Bounds.{edition-pulse-le}
 use Rattle.panel.specs.Counts.{stnLineTicks}
 use Rattle.panel.proofs.stn_frame.stn_line_ticks.Statement.{statement}
 use Rattle.panel.proofs.stn_frame.stn_line_ticks.Tie as tie
@@ -11,29 +10,18 @@ use Rattle.panel.proofs.stn_frame.stn_line_ticks.Tie as tie
 data-le : (c : tie.After-hozval) → 2 * c .before .clkval .result * (c .hozval .result + 1) ≤ 2046 * 2048
 data-le c = product-le (2 * c .before .clkval .result) 2046 (c .hozval .result + 1) 2048 (omega arith) (omega arith)
 
-first-le : (c : tie.After-edition-pulse) → c .edition-pulse .result ≤ 128
-first-le c =
-    let args = c .before .before .before .before .args in
-    omega (arith, c .edition-pulse .ensures, edition-pulse-le (args .edition) (c .before .wlh .result) (omega arith))
-
-second-le : (c : tie.After-edition-pulse2) → c .edition-pulse2 .result ≤ 128
-second-le c =
-    let args = c .before .before .before .before .before .before .args in
-    omega (arith, c .edition-pulse2 .ensures, edition-pulse-le (args .edition) (c .before .wdly .result) (omega arith))
-
 mul-data-2 : tie.Need-mul-data-2
 mul-data-2 c = omega (arith, data-le c)
 
 add-result : tie.Need-add-result
-add-result c = omega (arith, data-le (c .before .before), first-le c)
+add-result c = omega (arith, data-le (c .before .before))
 
 add-result-2 : tie.Need-add-result-2
-add-result-2 c = omega (arith, data-le (c .before .before .before .before), first-le (c .before .before), second-le c)
+add-result-2 c = omega (arith, data-le (c .before .before .before .before))
 
 add-result-3 : tie.Need-add-result-3
 add-result-3 c =
-    let c-2 = c .before in
-    omega (arith, data-le (c-2 .before .before .before .before), first-le (c-2 .before .before), second-le c-2)
+    omega (arith, data-le (c .before .before .before .before .before))
 
 returns : tie.Need-returns
 unfolding stnLineTicks
@@ -44,9 +32,9 @@ returns c =
     rw (
       first .before .clkval .ensures,
       first .hozval .ensures,
-      c-1 .edition-pulse .ensures,
+      c-1 .edition-pulse .ensures .0,
       c-1 .before .wlh .ensures,
-      c-2 .edition-pulse2 .ensures,
+      c-2 .edition-pulse2 .ensures .0,
       c-2 .before .wdly .ensures,
       c .lineblank .ensures,
     )
