@@ -1,5 +1,7 @@
 // The bench program (§11): nine words, HCLK, window start, palette and video words come on standard input; it prints a line of counts
 // and a line for each row, or only `refused N`. All input is read, and all refusals are judged, before anything is printed.
+#![tactic(auto)]
+
 ghost use Rattle.std.specs.Prelude.{◌≤◌, length};
 
 mod input;

@@ -13,7 +13,7 @@ use drawing::row::draw_row;
 use memory::Screen;
 use registers::{Loaded, Words, load};
 
-#[derive(Drop)]
+#[derive(Clone, Copy)]
 pub(crate) enum Shape {
     Pixel,
     Row,

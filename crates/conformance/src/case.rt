@@ -4,7 +4,7 @@ use super::text::{Numbers, Until, count_at, numbers_at, scan};
 
 // A case is a line: the argument that names its file, its line number, the numbers given and those due (after `=`), where in the text
 // both begin, how many are due, and what is lent.
-#[derive(Drop)]
+#[derive(Clone, Copy)]
 pub(crate) struct Case {
     pub group: usize,
     pub line: u64,
@@ -36,7 +36,7 @@ pub(crate) fn case_at(text: &[u8], at: usize, group: usize, line: u64, lent: Len
 }
 
 // How many cases were run, and how many of them differ.
-#[derive(Drop)]
+#[derive(Clone, Copy)]
 pub(crate) struct Tally {
     pub cases: u64,
     pub differ: u64,

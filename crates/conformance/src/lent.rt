@@ -5,7 +5,7 @@ use super::listed::count_up;
 use super::text::{Until, halves, key_at, number_at, scan, word_at, words};
 
 // Where in the text the numbers of the latest words, palette and video words begin; the smaller settings by value.
-#[derive(Drop)]
+#[derive(Clone, Copy)]
 pub(crate) struct Lent {
     pub words: usize,
     pub palette: usize,

@@ -13,7 +13,7 @@ use reader::read_pixel;
 use registers::Words;
 
 // A pixel by its row and column.
-#[derive(Drop)]
+#[derive(Clone, Copy)]
 pub(crate) struct Place {
     pub row: u32,
     pub column: u32,

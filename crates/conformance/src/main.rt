@@ -2,6 +2,8 @@
 // group of cases; the head of data/hand describes the format. Pixels, rows and pictures are also read through a reader (§12.1) and
 // steps are also taken in place (§12.2); both must agree with the plain calls. The program prints a line for every answer that
 // differs, and for each group its name, the number of its cases and `ok` or how many differ.
+#![tactic(auto)]
+
 mod calls;
 mod case;
 mod frame;

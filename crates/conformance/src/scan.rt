@@ -14,7 +14,7 @@ use scanout::step::{Stepped, step};
 use scanout::viewport::{Changed, change_viewport};
 
 // Kept from line to line: the state of the scan, how many entries of the picture a run is lent, and the tally.
-#[derive(Drop)]
+#[derive(Clone, Copy)]
 pub(crate) struct Scan {
     pub state: State,
     pub room: u64,

@@ -4,7 +4,7 @@ ghost use Rattle.std.specs.Prelude.{◌<◌, ◌≤◌, length};
 ghost use Rattle.io.specs.Counts.{IsPrefixLen};
 
 // What a scan stops at; it always stops at the end of the line.
-#[derive(Drop)]
+#[derive(Clone, Copy)]
 pub(crate) enum Until {
     LineEnd,
     Space,
@@ -115,7 +115,7 @@ pub(crate) fn word_at(text: &[u8], at: usize, k: u32) -> u32 {
 }
 
 // The first five numbers of a line from a place on.
-#[derive(Drop)]
+#[derive(Clone, Copy)]
 pub(crate) struct Numbers {
     pub first: u64,
     pub second: u64,

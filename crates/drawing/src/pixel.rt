@@ -17,7 +17,7 @@ use pixels::format::{Format, format_of};
 use pixels::order::in_order;
 
 // A pixel's colour, or a refusal's number.
-#[derive(Drop)]
+#[derive(Clone, Copy)]
 pub enum Drawn {
     Colour(u32),
     Refused(u32),

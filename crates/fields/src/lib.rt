@@ -1,4 +1,6 @@
 // Fields and words: reading the fields of the nine words (§1.4) and writing words from fields (§1.5).
+#![tactic(auto)]
+
 ghost use Rattle.std.specs.Prelude.{◌≡◌};
 ghost use Rattle.fields.specs.Reading.{fields_read, read};
 ghost use Rattle.fields.specs.Writing.{words_written, write};
@@ -9,7 +11,7 @@ mod packing;
 mod unpacking;
 mod widths;
 
-#[derive(Drop)]
+#[derive(Clone, Copy)]
 pub struct Lcdcon1 {
     pub clkval: u32,
     pub mmode: u32,
@@ -18,7 +20,7 @@ pub struct Lcdcon1 {
     pub envid: u32,
 }
 
-#[derive(Drop)]
+#[derive(Clone, Copy)]
 pub struct Lcdcon2 {
     pub vbpd: u32,
     pub lineval: u32,
@@ -26,20 +28,20 @@ pub struct Lcdcon2 {
     pub vspw: u32,
 }
 
-#[derive(Drop)]
+#[derive(Clone, Copy)]
 pub struct Lcdcon3 {
     pub hbpd: u32,
     pub hozval: u32,
     pub hfpd: u32,
 }
 
-#[derive(Drop)]
+#[derive(Clone, Copy)]
 pub struct Lcdcon4 {
     pub mval: u32,
     pub hspw: u32,
 }
 
-#[derive(Drop)]
+#[derive(Clone, Copy)]
 pub struct Lcdcon5 {
     pub bpp24bl: u32,
     pub frm565: u32,
@@ -56,31 +58,31 @@ pub struct Lcdcon5 {
     pub hwswp: u32,
 }
 
-#[derive(Drop)]
+#[derive(Clone, Copy)]
 pub struct Lcdsaddr1 {
     pub lcdbank: u32,
     pub lcdbaseu: u32,
 }
 
-#[derive(Drop)]
+#[derive(Clone, Copy)]
 pub struct Lcdsaddr2 {
     pub lcdbasel: u32,
 }
 
-#[derive(Drop)]
+#[derive(Clone, Copy)]
 pub struct Lcdsaddr3 {
     pub offsize: u32,
     pub pagewidth: u32,
 }
 
-#[derive(Drop)]
+#[derive(Clone, Copy)]
 pub struct Tpal {
     pub tpalen: u32,
     pub tpalval: u32,
 }
 
 // The fields of all nine words.
-#[derive(Drop)]
+#[derive(Clone, Copy)]
 pub struct Fields {
     pub lcdcon1: Lcdcon1,
     pub lcdcon2: Lcdcon2,
@@ -94,14 +96,14 @@ pub struct Fields {
 }
 
 // What reading gives: the fields, or a refusal's number.
-#[derive(Drop)]
+#[derive(Clone, Copy)]
 pub enum FieldsRead {
     Read(Fields),
     Refused(u32),
 }
 
 // What writing gives: the words, or a refusal's number.
-#[derive(Drop)]
+#[derive(Clone, Copy)]
 pub enum WordsWritten {
     Wrote(Words),
     Refused(u32),

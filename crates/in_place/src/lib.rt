@@ -1,5 +1,7 @@
 // The step in place (§12.2): the step of `scanout`, on a state behind `&mut`. Accepted, the state becomes the next one and the answer
 // is the clock's levels; refused, the answer is the number and the state stays (§9.5).
+#![tactic(auto)]
+
 ghost use Rattle.std.specs.Prelude.{◌≡◌};
 ghost use Rattle.in_place.specs.Stepping.{clocked, placed, leaving, step_in_place};
 ghost use Rattle.drawing.specs.Colour.{lending};
@@ -9,14 +11,14 @@ use scanout::step::{Stepped, step};
 use signals::clock::Clock;
 
 // The levels of the clock that a step took, or the number of the refusal.
-#[derive(Drop)]
+#[derive(Clone, Copy)]
 pub enum Clocked {
     Levels(Clock),
     Refused(u32),
 }
 
 // What a step answers, and the state that it leaves.
-#[derive(Drop)]
+#[derive(Clone, Copy)]
 pub struct Placed {
     pub answer: Clocked,
     pub state: State,

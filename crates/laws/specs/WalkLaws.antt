@@ -3,8 +3,8 @@
 use Rattle.std.specs.Prelude.{◌≡◌, ℕ, zero, List, [], ◌∷◌}
 use Rattle.std.proofs.Common.{sym, subst}
 use seplogic.Ra.Ura.{Ura}
-use seplogic.Ra.TreeShare.{full_share}
-use mir.Syntax.{Name, Ty, Fn, Place, Opd as Operand, Body, place, copy, seq, call}
+use base.Fraction.{full_share}
+use mir.Syntax.{Callee, Ty, Fn, Place, Opd as Operand, Body, place, copy, seq, call}
 use mir.Val.{Val}
 use base.Logic.{SProp, ent, sep, emp, via, emp∗, comm∗, fst∗, snd∗, mono∗, mono_r, ex_e, id⊢}
 use base.Fml.{Share, fat, fdies}
@@ -69,7 +69,7 @@ module _ {M : Type 1} {𝓤 : Ura M} {𝓛 : Logic 𝓤} {K : Type 0} {Γ : List
 
   -- a call by its callee's contract c, which says φ of the result whatever the last values are: the caller has the result r with what
   -- it owns, the tokens, and φ r
-  pub told : K → {C : Calls 𝓤 H} {Λ : Loops 𝓤 H} {q : Post 𝓤 H} {d : Place} {f : Name} {xs : List Operand} {rest : Body}
+  pub told : K → {C : Calls 𝓤 H} {Λ : Loops 𝓤 H} {q : Post 𝓤 H} {d : Place} {f : Callee} {xs : List Operand} {rest : Body}
       → FmC 𝓤 H 𝓛.laws C → (T : Ended) (c : Clauses 𝓤 T) → Triple 𝓤 (C f) (Cited 𝓛 T c) → (y : (Cited 𝓛 T c).Ghost)
       → Opds K 𝓛 (raw ((Cited 𝓛 T c).pre y) ∷ Γ) E xs ((Cited 𝓛 T c).args y) → (φ : Res T.signature y.0.0 → Type 0)
       → ((r : Res T.signature y.0.0) (ws : Lasts T y.0.0 y.0.3)

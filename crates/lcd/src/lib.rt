@@ -1,6 +1,8 @@
 // The C interface (§10): a slice comes from C as a pointer and a length (§10.1); host/lcd.h declares the calls. Each call is thin and
 // leaves the work to a crate below. It answers 0 when done, else the number of the refusal, and then nothing lent is changed (§9.5).
 // Its comment lists the refusals in the order in which they are judged (§9.3).
+#![tactic(auto)]
+
 ghost use Rattle.std.specs.Prelude.{◌≡◌};
 ghost use Rattle.drawing.specs.Colour.{lending};
 ghost use Rattle.laws.specs.Answers.{leaves};

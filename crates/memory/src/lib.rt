@@ -1,4 +1,6 @@
 // The lent video memory (§3.1): where a row lies in it (§3.2), refusal 8 (§3.6), and the check (§9.3).
+#![tactic(auto)]
+
 ghost use Rattle.std.specs.Prelude.{◌≡◌, ◌^◌, ◌<◌};
 ghost use Rattle.laws.specs.Cases.{and_where};
 ghost use Rattle.panel.specs.Refusals.{judge_either};
@@ -9,7 +11,7 @@ use panel::refusals::{and_where, clock_too_fast, judge, judge_either, judge_stn}
 use registers::{Loaded, Words, load};
 
 // What a screen is drawn from beside the lent slices: the nine words, and the byte address of the first lent word (the window start).
-#[derive(Drop)]
+#[derive(Clone, Copy)]
 pub struct Screen {
     pub words: Words,
     pub window_start: u32,

@@ -11,21 +11,21 @@ use super::timing::{frame_clocks, frame_ticks};
 use registers::{Loaded, Words};
 
 // The length of a frame, in clocks and in HCLK ticks.
-#[derive(Drop)]
+#[derive(Clone, Copy)]
 pub struct Counts {
     pub clocks: u32,
     pub ticks: u64,
 }
 
 // A frame's length, or a refusal's number.
-#[derive(Drop)]
+#[derive(Clone, Copy)]
 pub enum Counted {
     Frame(Counts),
     Refused(u32),
 }
 
 // A frame rate in millihertz, or a refusal's number.
-#[derive(Drop)]
+#[derive(Clone, Copy)]
 pub enum Rated {
     Millihertz(u64),
     Refused(u32),

@@ -7,7 +7,7 @@ ghost use Rattle.panel.specs.Geometry.{stn_width, stn_bits, panel_width, panel_b
 use registers::Words;
 
 // What a BPPMODE selects: the stored bits of a pixel, or a refusal's number.
-#[derive(Drop)]
+#[derive(Clone, Copy)]
 pub enum Depth {
     Stored(u32),
     Refused(u32),

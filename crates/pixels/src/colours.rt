@@ -3,7 +3,7 @@ ghost use Rattle.std.specs.Prelude.{◌≡◌};
 ghost use Rattle.pixels.specs.Colours.{expanded565, expanded5551, expanded, cut24};
 
 // The two ways in which 16 bits become 24 lines; FRM565 chooses.
-#[derive(Drop)]
+#[derive(Clone, Copy)]
 pub enum Expansion {
     Rgb565,
     Rgb5551,

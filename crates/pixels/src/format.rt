@@ -8,7 +8,7 @@ use registers::Words;
 
 // Stored bits of a pixel (§2.2), the two swaps (§4.2, §4.3), the place of 24 bits in a word (§4.5), the expansion of 16 bits (§5.2,
 // §5.3), the temporary palette (§5.4).
-#[derive(Drop)]
+#[derive(Clone, Copy)]
 pub struct Format {
     pub bits: u32,
     pub bswp: bool,

@@ -1,5 +1,7 @@
 // A reader of single pixels (§12.1). It holds the lent memory, the words and the window start, so a caller asks for one pixel after
 // another and lends only the palette each time. It keeps nothing else and judges every lookup anew: `drawing` does the work.
+#![tactic(auto)]
+
 ghost use Rattle.std.specs.Prelude.{◌≡◌};
 ghost use Rattle.drawing.specs.Colour.{lending};
 ghost use Rattle.drawing.specs.Drawing.{drawn_pixel, draw_pixel};
@@ -9,7 +11,7 @@ use drawing::pixel::{Drawn, draw_pixel};
 use memory::Screen;
 
 // The words with their window start, and the lent memory.
-#[derive(Drop)]
+#[derive(Clone, Copy)]
 pub struct Reader<'a> {
     pub screen: Screen,
     pub video: &'a [u32],

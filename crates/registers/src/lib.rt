@@ -1,4 +1,6 @@
 // The nine words of the LCD controller (§1), and numbers in lent slices (§10.1).
+#![tactic(auto)]
+
 ghost use Rattle.std.specs.Prelude.{◌≡◌};
 ghost use Rattle.laws.specs.Answers.{leaves};
 ghost use Rattle.registers.specs.Loading.{loaded, load, put_entries};
@@ -6,7 +8,7 @@ ghost use Rattle.registers.specs.Loading.{loaded, load, put_entries};
 mod bits;
 
 // The words in their order (§1.1).
-#[derive(Drop)]
+#[derive(Clone, Copy)]
 pub struct Words {
     pub lcdcon1: u32,
     pub lcdcon2: u32,
@@ -20,7 +22,7 @@ pub struct Words {
 }
 
 // What a slice gives: the nine words at its front, or a refusal's number.
-#[derive(Drop)]
+#[derive(Clone, Copy)]
 pub enum Loaded {
     Nine(Words),
     Refused(u32),

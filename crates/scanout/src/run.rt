@@ -14,7 +14,7 @@ use panel::timing::frame_clocks;
 use signals::pixel::pixels_before;
 
 // How many clocks were taken and the next state, or a refusal's number.
-#[derive(Drop)]
+#[derive(Clone, Copy)]
 pub enum Ran {
     Took(u64, State),
     Refused(u32),

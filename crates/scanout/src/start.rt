@@ -12,7 +12,7 @@ use memory::Screen;
 use registers::{Loaded, Words, load};
 
 // A state at position 0, or a refusal's number.
-#[derive(Drop)]
+#[derive(Clone, Copy)]
 pub enum Started {
     Ready(State),
     Refused(u32),

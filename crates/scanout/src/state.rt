@@ -8,7 +8,7 @@ use panel::timing::frame_clocks;
 use registers::Words;
 
 // Where the picture begins and ends: LCDSADDR1 and LCDSADDR2.
-#[derive(Drop)]
+#[derive(Clone, Copy)]
 pub struct Viewport {
     pub lcdsaddr1: u32,
     pub lcdsaddr2: u32,
@@ -16,7 +16,7 @@ pub struct Viewport {
 
 // The screen in force, the pending viewport, which takes over with a frame's first clock (§7.6), and the position: the number of the
 // next clock in its frame.
-#[derive(Drop)]
+#[derive(Clone, Copy)]
 pub struct State {
     pub screen: Screen,
     pub pending: Viewport,

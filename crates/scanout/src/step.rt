@@ -13,7 +13,7 @@ use signals::parts::parts_at;
 use signals::pixel::{Spot, spot_of};
 
 // A clock's levels and the next state, or a refusal's number.
-#[derive(Drop)]
+#[derive(Clone, Copy)]
 pub enum Stepped {
     Done(Clock, State),
     Refused(u32),

@@ -7,7 +7,7 @@ use super::refusals::judge_change;
 use super::state::{State, Viewport};
 
 // The state with the new viewport pending, or a refusal's number.
-#[derive(Drop)]
+#[derive(Clone, Copy)]
 pub enum Changed {
     Pending(State),
     Refused(u32),

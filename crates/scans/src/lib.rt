@@ -1,6 +1,8 @@
 // The scan's calls on slices (§10.4). The state is a lent slice of 13 entries: 0 to 8 the nine words in force, 9 the window start,
 // 10 and 11 the pending LCDSADDR1 and LCDSADDR2, 12 the position. Further entries stay. A step's levels and a run's count go to
 // slices of their own. The answer is 0 when done, else the number of the refusal, and then nothing lent is changed (§9.5).
+#![tactic(auto)]
+
 ghost use Rattle.std.specs.Prelude.{true, ◌≡◌, ◌≤◌, length, get_or};
 ghost use Rattle.laws.specs.Answers.{judged_on, leaves};
 ghost use Rattle.laws.specs.Storing.{stores};

@@ -1,4 +1,6 @@
 // New settings for a stored block of nine words (§1.8): ten stores of a word each, in an order that a power cut can't tear (§8.7).
+#![tactic(auto)]
+
 ghost use Rattle.std.specs.Prelude.{◌≡◌, ◌≤◌, length};
 ghost use Rattle.laws.specs.Answers.{leaves};
 ghost use Rattle.registers.specs.Loading.{nine_words};

@@ -7,7 +7,7 @@ use super::pixel::{Spot, spot_of};
 use registers::Words;
 
 // The levels at one clock: VSYNC, HSYNC and VDEN are 0 or 1, VD has the 24 data lines.
-#[derive(Drop)]
+#[derive(Clone, Copy)]
 pub struct Clock {
     pub vsync: u32,
     pub hsync: u32,

@@ -8,7 +8,7 @@ use panel::timing::line_clocks;
 use registers::Words;
 
 // A part of a line or of a frame. An active clock or line has its number among the active ones.
-#[derive(Drop)]
+#[derive(Clone, Copy)]
 pub enum Part {
     Sync,
     BackPorch,
@@ -47,7 +47,7 @@ fn part_at(sync: u32, before: u32, active: u32, number: u32) -> Part
 }
 
 // Where a position lies: the part of its line in the frame, and of its clock in the line.
-#[derive(Drop)]
+#[derive(Clone, Copy)]
 pub struct Parts {
     pub line: Part,
     pub clock: Part,

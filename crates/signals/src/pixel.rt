@@ -10,7 +10,7 @@ use panel::timing::line_clocks;
 use registers::Words;
 
 // What a clock shows: the pixel in a row and column, or nothing.
-#[derive(Drop)]
+#[derive(Clone, Copy)]
 pub enum Spot {
     Pixel(u32, u32),
     Blank,

@@ -1,6 +1,8 @@
 // The panel's sizes and a frame's counts as plain numbers in lent slices (§10.3). 0 is done; any other answer is the number of a
 // refusal, and then no lent slice changes (§9.5). Here the 12 sizes: the picture and its clock, the parts of a line in clocks, the parts
 // of a frame in lines; on STN the parts that do not show the picture are 0.
+#![tactic(auto)]
+
 ghost use Rattle.std.specs.Prelude.{◌≡◌};
 ghost use Rattle.laws.specs.Answers.{leaves};
 ghost use Rattle.sizes.specs.Sizes.{tft_sizes, stn_sizes, sizes, read_sizes_of, read_sizes};

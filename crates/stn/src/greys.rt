@@ -4,7 +4,7 @@ ghost use Rattle.stn.specs.Core.{pattern, Patterns};
 ghost use Rattle.stn.specs.Greys.{duty, lit};
 
 // A fraction n / d: a level is lit in n of each d frames.
-#[derive(Drop)]
+#[derive(Clone, Copy)]
 pub struct Duty {
     pub n: u32,
     pub d: u32,

@@ -1,4 +1,6 @@
 // Drawing what an STN panel shows in a frame (§5.10): a bit for each pixel, to lent bytes.
+#![tactic(auto)]
+
 ghost use Rattle.std.specs.Prelude.{◌≡◌};
 ghost use Rattle.laws.specs.Answers.{leaves};
 ghost use Rattle.stn.specs.Drawing.{frame_bytes, judge_stn_drawing, draw_stn};
