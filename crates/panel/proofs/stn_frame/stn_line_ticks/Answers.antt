@@ -1,0 +1,39 @@
+-- `panel::stn_frame::stn_line_ticks` meets its contract: at the largest fields nothing overflows.
+use Prim.Native.Nat.{◌+◌, ◌*◌, ◌≤◌}
+use native.Mathlib.Omega.{arith}
+use Rattle.laws.specs.ProductLaws.{product_le}
+use Rattle.panel.specs.Counts.{stn_line_ticks}
+use Rattle.panel.proofs.stn_frame.stn_line_ticks.Goals as goal
+
+pub overflow_mul-data-2 : goal.overflow_mul-data-2
+overflow_mul-data-2 c =
+    let data-le : 2 * c.clkval.result * (c.hozval.result + 1) ≤ 2046 * 2048 = product_le (2 * c.clkval.result) 2046 (c.hozval.result + 1) 2048 (omega arith) (omega arith) in
+    omega (arith, data-le)
+
+pub overflow_add-result : goal.overflow_add-result
+overflow_add-result c =
+    let data-le : 2 * c.clkval.result * (c.hozval.result + 1) ≤ 2046 * 2048 = product_le (2 * c.clkval.result) 2046 (c.hozval.result + 1) 2048 (omega arith) (omega arith) in
+    omega (arith, data-le)
+
+pub overflow_add-result-2 : goal.overflow_add-result-2
+overflow_add-result-2 c =
+    let data-le : 2 * c.clkval.result * (c.hozval.result + 1) ≤ 2046 * 2048 = product_le (2 * c.clkval.result) 2046 (c.hozval.result + 1) 2048 (omega arith) (omega arith) in
+    omega (arith, data-le)
+
+pub overflow_add-result-3 : goal.overflow_add-result-3
+overflow_add-result-3 c =
+    let data-le : 2 * c.clkval.result * (c.hozval.result + 1) ≤ 2046 * 2048 = product_le (2 * c.clkval.result) 2046 (c.hozval.result + 1) 2048 (omega arith) (omega arith) in
+    omega (arith, data-le)
+
+pub returns : goal.returns
+unfolding stn_line_ticks
+returns c =
+    rw (
+      c.clkval.ensures,
+      c.hozval.ensures,
+      c.edition_pulse.ensures.value,
+      c.wlh.ensures,
+      c.edition_pulse-2.ensures.value,
+      c.wdly.ensures,
+      c.lineblank.ensures,
+    )
