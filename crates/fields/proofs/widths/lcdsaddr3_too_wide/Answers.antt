@@ -1,5 +1,4 @@
 -- `fields::widths::lcdsaddr3_too_wide` meets its contract: the tests follow the layout.
-use borrow.Author.Rules.{rules}
 use Rattle.fields.proofs.widths.lcdsaddr3_too_wide.Goals as goal
 
 pub returns : goal.returns
