@@ -1,5 +1,4 @@
 -- `sizes::stn_sizes` meets its contract: size by size.
-use borrow.Author.Rules.{rules}
 use Rattle.sizes.proofs.stn_sizes.Goals as goal
 
 pub returns : goal.returns

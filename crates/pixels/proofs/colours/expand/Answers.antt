@@ -1,5 +1,4 @@
 -- `pixels::colours::expand` meets its contract.
-use borrow.Author.Rules.{rules}
 use Rattle.pixels.specs.Colours.{expanded}
 use Rattle.pixels.proofs.colours.expand.Goals as goal
 

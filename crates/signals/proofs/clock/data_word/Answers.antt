@@ -1,5 +1,4 @@
 -- `signals::clock::data_word` meets its contract.
-use borrow.Author.Rules.{rules}
 use borrow.Author.Tests.{eq-eqb, ne_eqb}
 use Rattle.signals.specs.Clock.{data_word}
 use Rattle.signals.proofs.clock.data_word.Goals as goal

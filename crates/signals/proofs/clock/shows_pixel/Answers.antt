@@ -1,5 +1,4 @@
 -- `signals::clock::shows_pixel` meets its contract.
-use borrow.Author.Rules.{rules}
 use Rattle.signals.specs.Clock.{shows_pixel}
 use Rattle.signals.proofs.clock.shows_pixel.Goals as goal
 

@@ -1,6 +1,5 @@
 -- `sizes::counts::put_counts` meets its contract.
 use native.Mathlib.Omega.{arith}
-use borrow.Author.Rules.{rules}
 use borrow.Author.Tests.{lt-ltb, le-ltb}
 use mathlib.Core.Path.{sym, ◌∙◌}
 use lib.ListN.{length-set}

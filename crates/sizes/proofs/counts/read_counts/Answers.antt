@@ -1,6 +1,5 @@
 -- `sizes::counts::read_counts` meets its contract.
 use mathlib.Core.Path.{sym, ap, ◌∙◌}
-use borrow.Author.Rules.{rules}
 use Rattle.laws.specs.AnswerLaws.{writes-on, leaves-on}
 use Rattle.sizes.specs.Counts.{read_counts}
 use Rattle.registers.specs.Loading.{loaded}
