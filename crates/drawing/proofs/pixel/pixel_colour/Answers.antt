@@ -1,0 +1,30 @@
+-- `drawing::pixel::pixel_colour` meets its contract.
+use mathlib.Core.Path.{refl, sym, ap, ◌∙◌}
+use native.Mathlib.Omega.{arith}
+use borrow.Author.Rules.{rules}
+use Rattle.pixels.specs.Pixel.{indexed, shown}
+use Rattle.memory.specs.Memory.{first_word}
+use Rattle.drawing.specs.Colour.{lending}
+use Rattle.drawing.proofs.Formats.{sized-format, temporary-colour, shown-colour}
+use Rattle.drawing.proofs.Numbers.{colour-is}
+use Rattle.drawing.proofs.pixel.pixel_colour.Goals as goal
+
+pub returns-then-f : goal.returns-then-f
+returns-then-f c =
+    let a = c.args in
+    let f = c.format_of-f.result in
+    sym (temporary-colour f (indexed f a.palette.now) a.video.now (first_word a.s a.row) a.column c.if-f.true)
+    ∙ colour-is a.s (lending a.video.now a.palette.now) a.row f (first_word a.s a.row) c.format_of-f.ensures refl a.column
+
+pub stored_at-v-requires : goal.stored_at-v-requires
+stored_at-v-requires c =
+    (rw c.format_of-f.ensures (sized-format c.args.s.words), c.first_word.ensures.1, omega arith)
+
+pub returns : goal.returns
+returns c =
+    let a = c.args in
+    let f = c.format_of-f.result in
+    c.show_indexed.ensures
+    ∙ ap (shown f (indexed f a.palette.now)) c.stored_at-v.ensures
+    ∙ sym (shown-colour f (indexed f a.palette.now) a.video.now c.first_word.result a.column c.if-f.false)
+    ∙ colour-is a.s (lending a.video.now a.palette.now) a.row f c.first_word.result c.format_of-f.ensures c.first_word.ensures.0 a.column

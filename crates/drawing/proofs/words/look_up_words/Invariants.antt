@@ -1,0 +1,19 @@
+-- `drawing::words::look_up_words` meets its contract: a word a turn.
+use mathlib.Core.Bool.{false}
+use mathlib.Core.Path.{refl, sym, ap, ◌∙◌}
+use Prim.Native.Nat.{ℕ, ◌+◌, ◌*◌, ◌/◌, ◌≤◌, ◌-◌}
+use native.Mathlib.Nat.{add-mul, div-le_self, mul-le-mul_right}
+use native.Mathlib.Omega.{arith}
+use borrow.Author.Rules.{rules}
+use lib.ListN.{length, get_or}
+use Rattle.laws.specs.StoringLaws.{Stored, none-stored, some_more, so-many-stored, all-stored}
+use Rattle.pixels.specs.Order.{pixel_bits, stored_pixel}
+use Rattle.pixels.proofs.StoredPixels.{word-pixel}
+use Rattle.drawing.proofs.words.look_up_words.Given as goal
+
+abbrev pub invariant-loop-i : goal.invariant-loop-i
+invariant-loop-i l =
+    (l.i ≤ l.n) × Stored (λ j. get_or l.table (stored_pixel l.s l.bswp false l.video l.from j) 0) l.at l.initial.out l.out (l.i * (32 / l.s))
+
+abbrev pub decreases-loop-i : goal.decreases-loop-i
+decreases-loop-i l = l.n - l.i

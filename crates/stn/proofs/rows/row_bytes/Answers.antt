@@ -1,0 +1,8 @@
+-- `stn::rows::row_bytes` meets its contract.
+use native.Mathlib.Omega.{arith}
+use Rattle.stn.specs.Drawing.{row_bytes}
+use Rattle.stn.proofs.rows.row_bytes.Goals as goal
+
+pub returns : goal.returns
+unfolding row_bytes
+returns c = (omega (arith, c.stn_width.ensures), omega (arith, c.stn_width.ensures))
