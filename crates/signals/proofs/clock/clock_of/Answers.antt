@@ -13,7 +13,7 @@ returns c =
       c.level.ensures ∙ ap₂ level {y = invvframe w} (omega arith) c.in_sync.ensures,
       c.level-2.ensures ∙ ap₂ level {y = invvline w} (omega arith) c.in_sync-2.ensures,
       c.level-3.ensures
-          ∙ ap₂ level {y = invvden w} (omega arith) (c.shows_pixel.ensures ∙ ap shows_pixel c.spot_of_lem.ensures),
+          ∙ ap₂ level {y = invvden w} (omega arith) (c.shows_pixel.ensures ∙ ap shows_pixel c.spot_of.ensures),
       c.data_word.ensures,
       c.invvd.ensures,
     ) refl

@@ -1,7 +1,6 @@
 -- `signals::parts::parts_at` meets its contract.
 use mathlib.Core.Path.{◌≡◌, ap₂}
 use native.Mathlib.Omega.{arith}
-use borrow.Author.Rules.{rules}
 use Rattle.panel.proofs.Bounds.{line-clocks-ge}
 use Rattle.panel.specs.Timing.{timing}
 use Rattle.signals.specs.Parts.{line_part, clock_part}
@@ -19,12 +18,12 @@ nonzero_rem-position c =
 pub returns : goal.returns
 unfolding line_part clock_part
 returns c =
-    let clock-is : let args = c.args in c.part_at-clock.result ≡ clock_part (timing args.w) args.position = rw (
+    let clock-is : c.part_at-clock.result ≡ clock_part (timing c.args.w) c.args.position = rw (
       c.line_clocks-size.ensures,
       c.hspw.ensures,
       c.clocks_before.ensures,
       c.width.ensures,
     ) at c.part_at-clock.ensures in
-    let line-is : let args = c.args in c.part_at-line.result ≡ line_part (timing args.w) args.position = rw (c.line_clocks-size.ensures, c.vspw.ensures, c.lines_before.ensures, c.height.ensures)
+    let line-is : c.part_at-line.result ≡ line_part (timing c.args.w) c.args.position = rw (c.line_clocks-size.ensures, c.vspw.ensures, c.lines_before.ensures, c.height.ensures)
     at c.part_at-line.ensures in
-    ap₂ (λ (c clock : Part). record { c = c; clock = clock }) line-is clock-is
+    ap₂ (λ (l k : Part). record { line = l; clock = k }) line-is clock-is
