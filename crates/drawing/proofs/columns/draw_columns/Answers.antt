@@ -1,8 +1,7 @@
 -- `drawing::columns::draw_columns` meets its contract.
-use mathlib.Core.Path.{◌≡◌, sym, ◌∙◌}
+use mathlib.Core.Path.{sym, ◌∙◌}
 use Prim.Native.Nat.{◌+◌}
 use native.Mathlib.Omega.{arith}
-use borrow.Author.Rules.{rules}
 use lib.ListN.{get_or}
 use Rattle.laws.specs.StoringLaws.{stores_same}
 use Rattle.drawing.specs.Colour.{row_colour}
@@ -12,26 +11,23 @@ use Rattle.drawing.proofs.columns.draw_columns.Goals as goal
 
 pub overflow_mul-from : goal.overflow_mul-from
 overflow_mul-from c =
-    let s = start c in
-    omega (arith, bits-few _ _ _ _ _ _ s.pre.0 s.args.column (omega arith))
+    omega (arith, bits-few _ _ _ _ _ _ c.requires.0 c.args.column (omega arith))
 
 pub overflow_add-from : goal.overflow_add-from
 overflow_add-from c =
-    let s = start c in
-    omega (arith, word _ _ _ _ _ _ s.pre.0 s.args.column, s.pre.0.lent.inside, s.good.1.0)
+    omega (arith, word _ _ _ _ _ _ c.requires.0 c.args.column, c.requires.0.lent.inside)
 
 pub overflow_mul-n : goal.overflow_mul-n
 overflow_mul-n c =
-    let s = start c in
-    omega (arith, bits-few _ _ _ _ _ _ s.pre.0 s.args.n (omega arith))
+    omega (arith, bits-few _ _ _ _ _ _ c.requires.0 c.args.n (omega arith))
 
 pub draw_words-requires : goal.draw_words-requires
 draw_words-requires c =
-    let s = start c in (
-      s.pre.0.legal,
-      s.pre.0.room c.if-f.left,
-      words-lent _ _ _ _ _ _ s.pre.0,
-      omega (arith, s.pre.1, pixels-of-words _ _ _ _ _ _ s.pre.0),
+    (
+      c.requires.0.legal,
+      c.requires.0.room c.if-f.false,
+      words-lent _ _ _ _ _ _ c.requires.0,
+      omega (arith, c.requires.1, pixels-of-words _ _ _ _ _ _ c.requires.0),
     )
 
 pub returns-then-f : goal.returns-then-f
@@ -44,5 +40,4 @@ returns-then-f c =
 
 pub returns-else-f : goal.returns-else-f
 returns-else-f c =
-    let s = start c in
-    columns-drawn _ _ _ _ _ _ s.pre.0 c.if-f.left s.args.at s.args.out.now _ c.draw_words.ensures
+    columns-drawn _ _ _ _ _ _ c.requires.0 c.if-f.false c.args.at c.args.out.now _ c.draw_words.ensures

@@ -1,6 +1,4 @@
 -- `drawing::pixel::draw_pixel` meets its contract.
-use mathlib.Core.Path.{refl}
-use borrow.Author.Rules.{rules}
 use Rattle.laws.specs.AnswerLaws.{gives-refusal, gives-answer}
 use Rattle.drawing.specs.Drawing.{draw_pixel}
 use Rattle.drawing.proofs.pixel.draw_pixel.Goals as goal

@@ -1,7 +1,6 @@
 -- `drawing::pixel::pixel_colour` meets its contract.
 use mathlib.Core.Path.{refl, sym, ap, ◌∙◌}
 use native.Mathlib.Omega.{arith}
-use borrow.Author.Rules.{rules}
 use Rattle.pixels.specs.Pixel.{indexed, shown}
 use Rattle.memory.specs.Memory.{first_word}
 use Rattle.drawing.specs.Colour.{lending}
@@ -18,7 +17,7 @@ returns-then-f c =
 
 pub stored_at-v-requires : goal.stored_at-v-requires
 stored_at-v-requires c =
-    (rw c.format_of-f.ensures (sized-format c.args.s.words), c.first_word.ensures.1, omega arith)
+    (rw c.format_of-f.ensures (sized-format c.args.s.words), c.first_word.ensures.upper_bound, omega arith)
 
 pub returns : goal.returns
 returns c =
@@ -27,4 +26,4 @@ returns c =
     c.show_indexed.ensures
     ∙ ap (shown f (indexed f a.palette.now)) c.stored_at-v.ensures
     ∙ sym (shown-colour f (indexed f a.palette.now) a.video.now c.first_word.result a.column c.if-f.false)
-    ∙ colour-is a.s (lending a.video.now a.palette.now) a.row f c.first_word.result c.format_of-f.ensures c.first_word.ensures.0 a.column
+    ∙ colour-is a.s (lending a.video.now a.palette.now) a.row f c.first_word.result c.format_of-f.ensures c.first_word.ensures.value a.column

@@ -1,18 +1,14 @@
 -- `drawing::words::look_up_words` meets its contract: a word a turn.
 use mathlib.Core.Bool.{false}
 use mathlib.Core.Path.{refl, sym, ap, ◌∙◌}
-use Prim.Native.Nat.{ℕ, ◌+◌, ◌*◌, ◌/◌, ◌≤◌, ◌-◌}
+use Prim.Native.Nat.{ℕ, ◌+◌, ◌*◌, ◌/◌, ◌≤◌}
 use native.Mathlib.Nat.{add-mul, div-le_self, mul-le-mul_right}
 use native.Mathlib.Omega.{arith}
-use borrow.Author.Rules.{rules}
 use lib.ListN.{length, get_or}
-use Rattle.laws.specs.StoringLaws.{Stored, none-stored, some_more, so-many-stored, all-stored}
-use Rattle.pixels.specs.Order.{pixel_bits, stored_pixel}
+use Rattle.laws.specs.StoringLaws.{none-stored, some_more, so-many-stored, all-stored}
+use Rattle.pixels.specs.Order.{pixel_bits}
 use Rattle.pixels.proofs.StoredPixels.{word-pixel}
 use Rattle.drawing.proofs.words.look_up_words.Goals as goal
-
-abbrev start : tie.In-loop invariant-loop decreases-loop → tie.Start invariant-loop decreases-loop
-start c = c.before.before.before.before.before
 
 pub overflow_cast-per_word : goal.overflow_cast-per_word
 overflow_cast-per_word c = omega (arith, div-le_self 32 c.args.s)
@@ -22,45 +18,48 @@ loop-i-init c = (omega arith, so-many-stored _ _ _ _ _ (none-stored _ _ _) _ (om
 
 pub overflow_mul-i : goal.overflow_mul-i
 overflow_mul-i c =
-    let room : (start c).args.at + (c.loop-i.i * (32 / (start c).args.s) + 32 / (start c).args.s)
-    ≤ length c.loop-i.out = let q = 32 / (start c).args.s in
+    let room : c.args.at + (c.loop-i.i * (32 / c.args.s) + 32 / c.args.s)
+    ≤ length c.loop-i.out =
+        let q = 32 / c.args.s in
     let i = c.loop-i.i in
     omega (
       arith,
-      (start c).requires.0.room,
+      c.requires.0.room,
       c.loop-i.invariant.1.size,
       add-mul i 1 q,
-      mul-le-mul_right {m = i + 1} {n = (start c).args.n} q (omega arith),
+      mul-le-mul_right {m = i + 1} {n = c.args.n} q (omega arith),
     ) in
     omega (arith, room)
 
 pub overflow_add-at : goal.overflow_add-at
 overflow_add-at c =
-    let room : (start c).args.at + (c.loop-i.i * (32 / (start c).args.s) + 32 / (start c).args.s)
-    ≤ length c.loop-i.out = let q = 32 / (start c).args.s in
+    let room : c.args.at + (c.loop-i.i * (32 / c.args.s) + 32 / c.args.s)
+    ≤ length c.loop-i.out =
+        let q = 32 / c.args.s in
     let i = c.loop-i.i in
     omega (
       arith,
-      (start c).requires.0.room,
+      c.requires.0.room,
       c.loop-i.invariant.1.size,
       add-mul i 1 q,
-      mul-le-mul_right {m = i + 1} {n = (start c).args.n} q (omega arith),
+      mul-le-mul_right {m = i + 1} {n = c.args.n} q (omega arith),
     ) in
     omega (arith, room)
 
 pub look_up_word-requires : goal.look_up_word-requires
 look_up_word-requires c =
-    let room : (start c).args.at + (c.loop-i.i * (32 / (start c).args.s) + 32 / (start c).args.s)
-    ≤ length c.loop-i.out = let q = 32 / (start c).args.s in
+    let room : c.args.at + (c.loop-i.i * (32 / c.args.s) + 32 / c.args.s)
+    ≤ length c.loop-i.out =
+        let q = 32 / c.args.s in
     let i = c.loop-i.i in
     omega (
       arith,
-      (start c).requires.0.room,
+      c.requires.0.room,
       c.loop-i.invariant.1.size,
       add-mul i 1 q,
-      mul-le-mul_right {m = i + 1} {n = (start c).args.n} q (omega arith),
+      mul-le-mul_right {m = i + 1} {n = c.args.n} q (omega arith),
     ) in
-    let pre = (start c).pre in (
+    let pre = c.requires in (
       record {
         some = pre.0.some;
         whole = pre.0.whole;
@@ -71,7 +70,7 @@ look_up_word-requires c =
 
 pub loop-i-preserved : goal.loop-i-preserved
 loop-i-preserved c =
-    let a = (start c).args in
+    let a = c.args in
     let i = c.loop-i.i in
     let s = a.s in (
       omega arith,

@@ -1,14 +1,9 @@
 -- `drawing::words::look_up_words` meets its contract: a word a turn.
 use mathlib.Core.Bool.{false}
-use mathlib.Core.Path.{refl, sym, ap, ◌∙◌}
-use Prim.Native.Nat.{ℕ, ◌+◌, ◌*◌, ◌/◌, ◌≤◌, ◌-◌}
-use native.Mathlib.Nat.{add-mul, div-le_self, mul-le-mul_right}
-use native.Mathlib.Omega.{arith}
-use borrow.Author.Rules.{rules}
-use lib.ListN.{length, get_or}
-use Rattle.laws.specs.StoringLaws.{Stored, none-stored, some_more, so-many-stored, all-stored}
-use Rattle.pixels.specs.Order.{pixel_bits, stored_pixel}
-use Rattle.pixels.proofs.StoredPixels.{word-pixel}
+use Prim.Native.Nat.{◌*◌, ◌/◌, ◌≤◌, ◌-◌}
+use lib.ListN.{get_or}
+use Rattle.laws.specs.StoringLaws.{Stored}
+use Rattle.pixels.specs.Order.{stored_pixel}
 use Rattle.drawing.proofs.words.look_up_words.Given as goal
 
 abbrev pub invariant-loop-i : goal.invariant-loop-i
