@@ -4,11 +4,11 @@ use mathlib.Core.List.{List, [], ◌∷◌}
 use mathlib.Core.Path.{◌≡◌, refl, sym, ap, ap₂, ◌∙◌}
 use Prim.Native.Nat.{ℕ, zero, suc, ◌+◌, ◌-◌, ◌*◌, ◌/◌, ◌%◌, ◌^◌, ◌<◌, ◌≤◌}
 use native.Mathlib.Decide.{ℕ_discrete, dec_lt}
-use native.Mathlib.Nat.{mod-lt, mul-div-mul_right, mul-div_cancel, mul_assoc, mul_comm, add-mul, div-add-mod', mul-zero, mul-lt-mul_of_pos_right, div-lt_iff_lt-mul, lt_of_lt_of_le, mul-mod_left, mul-sub, mul-le-mul_left, mul-one, le_trans, le_of_mul-le-mul_right, add-mul-div_right, add-mul-mod_self_right, div-mul-le_self}
+use native.Mathlib.Nat.{mod-lt, mul-div-mul_right, mul-div_cancel, mul_assoc, mul_comm, add-mul, div-add-mod', mul-zero, mul-lt-mul_of_pos_right, mul-mod_left, mul-sub, mul-le-mul_left, mul-one, le_of_mul-le-mul_right, add-mul-div_right, add-mul-mod_self_right}
 use native.Mathlib.Omega.{arith}
 use borrow.Author.Tests.{eqb-true, eq-eqb, ne_eqb, le-leb}
 use lib.Arith.{digits_mod}
-use lib.Dec.{T, eqb, ltb, leb, eqb→eq, leb→le, ltb→lt}
+use lib.Dec.{T, eqb, leb, eqb→eq, leb→le}
 use lib.ListN.{length, get_or}
 use Rattle.laws.specs.Storing.{stores}
 use Rattle.laws.specs.StoringLaws.{stores_as}

@@ -1,6 +1,6 @@
 -- What is drawn by the format and a row's first word, and by a pixel's number in reading order (§5.6).
 use mathlib.Core.List.{List}
-use mathlib.Core.Path.{◌≡◌, sym, ap, ap₂, ◌∙◌}
+use mathlib.Core.Path.{◌≡◌, sym, ap₂, ◌∙◌}
 use Prim.Native.Nat.{ℕ, ◌/◌, ◌%◌}
 use Rattle.laws.specs.Storing.{stores}
 use Rattle.laws.specs.StoringLaws.{stores_as}

@@ -2,9 +2,9 @@
 use mathlib.Core.Bool.{false}
 use mathlib.Core.List.{List}
 use mathlib.Core.Path.{◌≡◌, sym, ap, ◌∙◌, subst}
-use Prim.Native.Nat.{ℕ, min, ◌+◌, ◌-◌, ◌*◌, ◌/◌, ◌%◌, ◌^◌, ◌<◌, ◌≤◌, ◌∣◌}
+use Prim.Native.Nat.{ℕ, min, ◌+◌, ◌-◌, ◌*◌, ◌/◌, ◌%◌, ◌<◌, ◌≤◌, ◌∣◌}
 use native.Mathlib.Decide.{dec_lt}
-use native.Mathlib.Nat.{div-mul_cancel, mod-eq-zero_of_dvd, dvd_of_mod-eq-zero, dvd_refl, dvd-add, dvd-sub, dvd-mul_left_of_dvd, div-add-mod', le_of_mul-le-mul_right, add-mul}
+use native.Mathlib.Nat.{div-mul_cancel, mod-eq-zero_of_dvd, dvd_of_mod-eq-zero, dvd_refl, dvd-add, dvd-mul_left_of_dvd, div-add-mod', le_of_mul-le-mul_right, add-mul}
 use native.Mathlib.Omega.{arith}
 use lib.ListN.{length, get_or}
 use Rattle.laws.specs.ProductLaws.{product_le}
@@ -18,7 +18,7 @@ use Rattle.pixels.specs.Order.{stored_pixel}
 use Rattle.memory.specs.Memory.{first_word}
 use Rattle.memory.specs.declared.Screen.{Screen}
 use Rattle.drawing.specs.Colour.{row_colour}
-use Rattle.drawing.specs.Core.{per_word, Columns, InMemory, ByRows, columns_stored}
+use Rattle.drawing.specs.Core.{per_word, Columns, ByRows, columns_stored}
 use Rattle.drawing.proofs.Formats.{bits-le, bits-fill, per-word-pos, word-of-bit, from-word, shown-colour}
 
 -- ---- columns

@@ -2,10 +2,9 @@
 -- a later row begins later
 use mathlib.Core.Bool.{Bool, true, ◌&&◌}
 use mathlib.Core.Path.{◌≡◌, sym, ap, ap₂, ◌∙◌}
-use Prim.Native.Nat.{ℕ, ◌+◌, ◌-◌, ◌*◌, ◌/◌, ◌%◌, ◌≤◌, ◌∣◌}
+use Prim.Native.Nat.{ℕ, ◌+◌, ◌-◌, ◌*◌, ◌/◌, ◌%◌, ◌≤◌}
 use native.Mathlib.Nat.{dvd_of_mod-eq-zero}
 use native.Mathlib.Omega.{arith}
-use borrow.Author.Rules.{rules}
 use borrow.Author.Tests.{eqb-true, leb-true}
 use lib.Dec.{eqb, leb}
 use Rattle.laws.specs.BooleanLaws.{both_true}
@@ -50,7 +49,8 @@ tested s lent legal bits last is-legal is-bits is_last e =
 
 pub overflow_mul-bits : goal.overflow_mul-bits
 overflow_mul-bits c =
-    let few : c.width.result * c.format_of-f.result.bits ≤ 2048 * 32 = let f = c.format_of-f in
+    let few : c.width.result * c.format_of-f.result.bits ≤ 2048 * 32 =
+        let f = c.format_of-f in
     product_le c.width.result 2048 f.result.bits 32 (omega (arith, c.width.ensures))
     (bits-le f.result (rw f.ensures (sized-format c.args.s.words))) in
     omega (arith, few)
@@ -60,10 +60,11 @@ legal-requires c = rw c.format_of-f.ensures (sized-format c.args.s.words)
 
 pub overflow_add-result : goal.overflow_add-result
 overflow_add-result c =
-    let few : c.width.result * c.format_of-f.result.bits ≤ 2048 * 32 = let f = c.format_of-f in
+    let few : c.width.result * c.format_of-f.result.bits ≤ 2048 * 32 =
+        let f = c.format_of-f in
     product_le c.width.result 2048 f.result.bits 32 (omega (arith, c.width.ensures))
     (bits-le f.result (rw f.ensures (sized-format c.args.s.words))) in
-    omega (arith, c.first_word-last.ensures.1, few)
+    omega (arith, c.first_word-last.ensures.upper_bound, few)
 
 pub returns : goal.returns
 returns c on =
@@ -71,4 +72,4 @@ returns c on =
     let a = c.args in
     tested a.s a.lent c.legal.result (c.width.result * f.result.bits) c.first_word-last.result (λ t. rw (← f.ensures) (c.legal.ensures t))
     (ap₂ (λ (i : ℕ) (g : Format). i * g.bits) c.width.ensures f.ensures)
-    (c.first_word-last.ensures.0 ∙ ap (λ (i : ℕ). first_word a.s (i - 1)) c.height.ensures) on
+    (c.first_word-last.ensures.value ∙ ap (λ (i : ℕ). first_word a.s (i - 1)) c.height.ensures) on

@@ -1,50 +1,39 @@
 -- `drawing::picture::draw_few` meets its contract: a pixel a turn.
 use mathlib.Core.Path.{refl, sym, ap, ◌∙◌}
-use Prim.Native.Nat.{ℕ, ◌+◌, ◌-◌, ◌*◌, ◌/◌, ◌%◌, ◌<◌, ◌≤◌}
+use Prim.Native.Nat.{ℕ, ◌+◌, ◌/◌, ◌%◌}
 use native.Mathlib.Nat.{mod-lt, div-le_self}
 use native.Mathlib.Omega.{arith}
-use borrow.Author.Rules.{rules}
 use Rattle.laws.specs.ProductLaws.{product_le}
-use Rattle.laws.specs.StoringLaws.{Stored, none-stored, one_more, all-stored}
+use Rattle.laws.specs.StoringLaws.{none-stored, one_more, all-stored}
 use Rattle.panel.specs.Geometry.{width, height}
-use Rattle.drawing.specs.Colour.{lending}
-use Rattle.drawing.specs.Drawing.{colour_in_order}
 use Rattle.drawing.proofs.Numbers.{in_order}
 use Rattle.drawing.proofs.picture.draw_few.Goals as goal
-
-abbrev sizes : tie.In-loop invariant-loop decreases-loop → tie.After-width invariant-loop decreases-loop
-sizes c = c.before.before
-
-abbrev start : tie.After-width invariant-loop decreases-loop → tie.Start invariant-loop decreases-loop
-start c = c.before.before.before.before
 
 pub loop-i-init : goal.loop-i-init
 loop-i-init c = (omega arith, none-stored _ _ _)
 
 pub overflow_cast-row : goal.overflow_cast-row
 overflow_cast-row c =
-    let s = start (sizes c) in
-    let w = s.args.s.words in
+    let w = c.args.s.words in
     omega (
       arith,
-      s.pre.0,
-      div-le_self (s.args.first + c.loop-i.i) (sizes c).width.result,
+      c.requires.0,
+      div-le_self (c.args.first + c.loop-i.i) c.width-wide.result,
       product_le (width w) 2048 (height w) 1024 (omega arith) (omega arith),
     )
 
 pub overflow_cast-number : goal.overflow_cast-number
 overflow_cast-number c =
-    omega (arith, (sizes c).width.ensures, mod-lt ((start (sizes c)).args.first + c.loop-i.i) {m = (sizes c).width.result} (omega arith))
+    omega (arith, c.width-wide.ensures, mod-lt (c.args.first + c.loop-i.i) {m = c.width-wide.result} (omega arith))
 
 pub loop-i-preserved : goal.loop-i-preserved
 loop-i-preserved c =
-    let z = sizes c in
-    let a = (start z).args in
+    let a = c.args in
     let number = a.first + c.loop-i.i in (
       omega arith,
       one_more _ _ _ _ _ c.loop-i.invariant.1 _ _ refl
           (c.pixel_colour.ensures
-          ∙ in_order a.s _ number _ _ (ap (λ (k : ℕ). number / k) (sym z.width.ensures)) (ap (λ (k : ℕ). number % k) (sym z.width.ensures))),
+          ∙ in_order a.s _ number _ _ (ap (λ (k : ℕ). number / k) (sym c.width-wide.ensures)) (ap (λ (k : ℕ). number % k) (sym c.width-wide.ensures))),
     )
 
 pub shape_of-picture : goal.shape_of-picture

@@ -1,15 +1,8 @@
 -- `drawing::picture::draw_few` meets its contract: a pixel a turn.
-use mathlib.Core.Path.{refl, sym, ap, ◌∙◌}
-use Prim.Native.Nat.{ℕ, ◌+◌, ◌-◌, ◌*◌, ◌/◌, ◌%◌, ◌<◌, ◌≤◌}
-use native.Mathlib.Nat.{mod-lt, div-le_self}
-use native.Mathlib.Omega.{arith}
-use borrow.Author.Rules.{rules}
-use Rattle.laws.specs.ProductLaws.{product_le}
-use Rattle.laws.specs.StoringLaws.{Stored, none-stored, one_more, all-stored}
-use Rattle.panel.specs.Geometry.{width, height}
+use Prim.Native.Nat.{◌+◌, ◌-◌, ◌≤◌}
+use Rattle.laws.specs.StoringLaws.{Stored}
 use Rattle.drawing.specs.Colour.{lending}
 use Rattle.drawing.specs.Drawing.{colour_in_order}
-use Rattle.drawing.proofs.Numbers.{in_order}
 use Rattle.drawing.proofs.picture.draw_few.Given as goal
 
 abbrev pub invariant-loop-i : goal.invariant-loop-i

@@ -3,7 +3,6 @@ use mathlib.Core.Path.{ap, ◌∙◌}
 use Prim.Native.Nat.{ℕ, ◌-◌, ◌*◌, ◌/◌, ◌%◌}
 use native.Mathlib.Nat.{add-zero, div-le_self}
 use native.Mathlib.Omega.{arith}
-use borrow.Author.Rules.{rules}
 use Rattle.laws.specs.ProductLaws.{product_le}
 use Rattle.drawing.proofs.Formats.{begins-word, left-in-word, size-le}
 use Rattle.drawing.proofs.picture.to_next_word.Goals as goal
@@ -17,15 +16,15 @@ overflow_mul-bit c =
 
 pub returns-then-bit-eq0 : goal.returns-then-bit-eq0
 returns-then-bit-eq0 c =
-    (
-      ap (λ (n : ℕ). n % (32 / c.args.bits)) (add-zero c.args.column)
-          ∙ begins-word c.args.bits c.requires.0 c.requires.1 c.args.column c.if-bit-eq0.true,
-      omega arith,
-    )
+    record {
+      bits_value = ap (λ (n : ℕ). n % (32 / c.args.bits)) (add-zero c.args.column)
+          ∙ begins-word c.args.bits c.requires.0 c.requires.1 c.args.column c.if-bit-eq0.true;
+      upper_bound = omega arith;
+    }
 
 pub returns : goal.returns
 returns c =
-    (
-      left-in-word c.args.bits c.requires.0 c.requires.1 c.args.column,
-      omega (arith, div-le_self (32 - c.args.column * c.args.bits % 32) c.args.bits),
-    )
+    record {
+      bits_value = left-in-word c.args.bits c.requires.0 c.requires.1 c.args.column;
+      upper_bound = omega (arith, div-le_self (32 - c.args.column * c.args.bits % 32) c.args.bits);
+    }
