@@ -1,7 +1,7 @@
 -- What it means that a step or run is accepted (§9.3): the next clock's viewport can be drawn from, the position lies in the frame, and
 -- the state one clock on is accepted too.
 use mathlib.Core.Bool.{Bool, false, not, ◌||◌}
-use mathlib.Core.List.{List, [], ◌∷◌}
+use mathlib.Core.List.{[], ◌∷◌}
 use mathlib.Core.Path.{◌≡◌, refl, ap, ◌∙◌}
 use Prim.Native.Nat.{ℕ, ◌+◌, ◌<◌}
 use native.Mathlib.Decide.{ℕ_discrete}
@@ -11,7 +11,7 @@ use lib.Dec.{eqb, leb}
 use lib.ListN.{length}
 use Rattle.laws.specs.Answers.{judged, accepted}
 use Rattle.laws.specs.BooleanLaws.{or-false, or-false-left, or-false-right}
-use Rattle.laws.specs.Cases.{Case, ◌when◌, lowest, lower}
+use Rattle.laws.specs.Cases.{◌when◌, lowest, lower}
 use Rattle.laws.specs.CaseLaws.{NoneHolds, lowest-zero-none-holds, joined-pass, pass-joined, none-of-one}
 use Rattle.drawing.specs.Colour.{Lent, colour}
 use Rattle.drawing.specs.Drawing.{palette_wrong, row_outside, column_outside, colour_tail, drawing_cases, judge_pixel, draw_pixel}

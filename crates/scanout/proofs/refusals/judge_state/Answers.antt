@@ -1,4 +1,5 @@
 -- `scanout::refusals::judge_state` meets its contract.
+-- where the two viewports are the same, so are their numbers
 use mathlib.Core.Bool.{true, ◌&&◌}
 use mathlib.Core.Path.{◌≡◌, refl, sym, ap, ap₂, ◌∙◌}
 use Prim.Native.Nat.{ℕ}
@@ -10,10 +11,8 @@ use Rattle.laws.specs.CaseLaws.{lower-same, lowest-joined}
 use Rattle.memory.specs.Memory.{memory_cases, judge_memory}
 use Rattle.scanout.specs.Refusals.{viewport_cases}
 use Rattle.scanout.specs.declared.state.State.{State}
-use Rattle.scanout.proofs.refusals.judge_state.Statement.{statement}
-use Rattle.scanout.proofs.refusals.judge_state.Tie as tie
+use Rattle.scanout.proofs.refusals.judge_state.Goals as goal
 
--- where the two viewports are the same, so are their numbers
 same-views : (s : State) (lent : ℕ)
     → eqb s.screen.words.lcdsaddr1 s.pending.lcdsaddr1 && eqb s.screen.words.lcdsaddr2 s.pending.lcdsaddr2 ≡ true
     → lowest (viewport_cases s s.pending lent) ≡ lowest (memory_cases s.screen lent)
@@ -25,28 +24,21 @@ same-views s lent e =
     )
     refl
 
-abbrev current : tie.After-struct-known2 → tie.After-judge-memory
-current c = c.before.before
-
-returns : tie.Need-returns
+pub returns-then-same_start-same_end : goal.returns-then-same_start-same_end
 unfolding judge_memory
-returns c =
-    let a = (current c.before).before.args in
+returns-then-same_start-same_end c =
+    let a = c.args in
     let number = lowest (memory_cases a.s.screen a.lent) in
-    (current c.before).judge-memory.ensures
+    c.judge_memory-current.ensures
     ∙ sym
     (lowest-joined (memory_cases a.s.screen a.lent) (viewport_cases a.s a.s.pending a.lent)
-    ∙ ap (lower number) (same-views a.s a.lent c.if1.true)
+    ∙ ap (lower number) (same-views a.s a.lent c.if-same_start-same_end.true)
     ∙ lower-same number)
 
-returns-2 : tie.Need-returns-2
+pub returns : goal.returns
 unfolding judge_memory
-returns-2 c =
-    let k = current c.before.before.before in
-    let a = k.before.args in
+returns c =
+    let a = c.args in
     c.lower.ensures
-    ∙ ap₂ lower k.judge-memory.ensures c.before.judge-viewport.ensures
+    ∙ ap₂ lower c.judge_memory-current.ensures c.judge_viewport.ensures
     ∙ sym (lowest-joined (memory_cases a.s.screen a.lent) (viewport_cases a.s a.s.pending a.lent))
-
-pub judge-state-spec : {M : Type 1} → statement M
-judge-state-spec = tie.close (tie.spec (λ c κs. tt) returns (λ c κs. tt) (λ c κs. tt) returns-2)
