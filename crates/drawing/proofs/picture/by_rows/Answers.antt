@@ -1,5 +1,4 @@
 -- `drawing::picture::by_rows` meets its contract.
--- a later row begins later
 use mathlib.Core.Bool.{Bool, true, ◌&&◌}
 use mathlib.Core.Path.{◌≡◌, sym, ap, ap₂, ◌∙◌}
 use Prim.Native.Nat.{ℕ, ◌+◌, ◌-◌, ◌*◌, ◌/◌, ◌%◌, ◌≤◌}
@@ -19,6 +18,7 @@ use Rattle.drawing.specs.Core.{Legal, ByRows}
 use Rattle.drawing.proofs.Formats.{bits-le, bits-fill, sized-format, begins-word, word-of-bit}
 use Rattle.drawing.proofs.picture.by_rows.Goals as goal
 
+-- a later row begins later
 rows-begin-later : (s : Screen) (r k : ℕ) → r ≤ k → first_word s r ≤ first_word s k
 unfolding first_word
 rows-begin-later s r k h = omega (arith, rows-rise s.words r k h)
@@ -49,10 +49,10 @@ tested s lent legal bits last is-legal is-bits is_last e =
 
 pub overflow_mul-bits : goal.overflow_mul-bits
 overflow_mul-bits c =
-    let few : c.width.result * c.format_of-f.result.bits ≤ 2048 * 32 =
-        let f = c.format_of-f in
-    product_le c.width.result 2048 f.result.bits 32 (omega (arith, c.width.ensures))
-    (bits-le f.result (rw f.ensures (sized-format c.args.s.words))) in
+    let f = c.format_of-f in
+    let few : c.width.result * f.result.bits ≤ 2048 * 32 =
+        product_le c.width.result 2048 f.result.bits 32 (omega (arith, c.width.ensures))
+        (bits-le f.result (rw f.ensures (sized-format c.args.s.words))) in
     omega (arith, few)
 
 pub legal-requires : goal.legal-requires
@@ -60,10 +60,10 @@ legal-requires c = rw c.format_of-f.ensures (sized-format c.args.s.words)
 
 pub overflow_add-result : goal.overflow_add-result
 overflow_add-result c =
-    let few : c.width.result * c.format_of-f.result.bits ≤ 2048 * 32 =
-        let f = c.format_of-f in
-    product_le c.width.result 2048 f.result.bits 32 (omega (arith, c.width.ensures))
-    (bits-le f.result (rw f.ensures (sized-format c.args.s.words))) in
+    let f = c.format_of-f in
+    let few : c.width.result * f.result.bits ≤ 2048 * 32 =
+        product_le c.width.result 2048 f.result.bits 32 (omega (arith, c.width.ensures))
+        (bits-le f.result (rw f.ensures (sized-format c.args.s.words))) in
     omega (arith, c.first_word-last.ensures.upper_bound, few)
 
 pub returns : goal.returns

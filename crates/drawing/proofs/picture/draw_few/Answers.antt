@@ -17,27 +17,22 @@ overflow_cast-row c =
     let w = c.args.s.words in
     omega (
       arith,
-      c.requires.0,
       div-le_self (c.args.first + c.loop-i.i) c.width-wide.result,
       product_le (width w) 2048 (height w) 1024 (omega arith) (omega arith),
     )
 
 pub overflow_cast-number : goal.overflow_cast-number
 overflow_cast-number c =
-    omega (arith, c.width-wide.ensures, mod-lt (c.args.first + c.loop-i.i) {m = c.width-wide.result} (omega arith))
+    omega (arith, mod-lt (c.args.first + c.loop-i.i) {m = c.width-wide.result} (omega arith))
 
 pub loop-i-preserved : goal.loop-i-preserved
 loop-i-preserved c =
-    let a = c.args in
-    let number = a.first + c.loop-i.i in (
+    let number = c.args.first + c.loop-i.i in
+    let e = sym c.width-wide.ensures in (
       omega arith,
       one_more _ _ _ _ _ c.loop-i.invariant.1 _ _ refl
-          (c.pixel_colour.ensures
-          ∙ in_order a.s _ number _ _ (ap (λ (k : ℕ). number / k) (sym c.width-wide.ensures)) (ap (λ (k : ℕ). number % k) (sym c.width-wide.ensures))),
+          (c.pixel_colour.ensures ∙ in_order c.args.s _ number _ _ (ap (λ (k : ℕ). number / k) e) (ap (λ (k : ℕ). number % k) e)),
     )
-
-pub shape_of-picture : goal.shape_of-picture
-shape_of-picture c = c.loop-i.invariant.1.size
 
 pub returns : goal.returns
 returns c = all-stored _ _ _ _ _ c.loop-i.invariant.1 _ (omega arith)

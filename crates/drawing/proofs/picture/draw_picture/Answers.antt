@@ -18,13 +18,12 @@ pub draw_rows-requires : goal.draw_rows-requires
 draw_rows-requires c =
     let accepted : judge_picture c.args.s (length c.args.video.now) (length c.args.palette.now) (length c.args.picture.now) ≡ 0 =
         sym c.judge_picture-refusal.ensures ∙ c.if-refusal-ne0.false in
-    let room : pixels c.args.s.words ≤ length c.args.picture.now =
-        picture-has-room _ _ _ _ accepted in
+    let room : pixels c.args.s.words ≤ length c.args.picture.now = picture-has-room _ _ _ _ accepted in
     let rows = rows-of-picture _ _ _ _ accepted in (
       rows,
       record { begins = λ some. dvd-zero _; whole = rw c.pixels_of.ensures.value (dvd-mul_right_of_dvd _ rows.whole _) },
-      omega (arith, c.pixels_of.ensures.value),
-      omega (arith, c.pixels_of.ensures.value, room),
+      omega arith,
+      omega arith,
     )
 
 pub returns : goal.returns

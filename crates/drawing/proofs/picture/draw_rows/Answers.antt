@@ -1,6 +1,6 @@
 -- `drawing::picture::draw_rows` meets its contract: a row a turn.
-use mathlib.Core.Path.{refl, ◌∙◌, subst}
-use Prim.Native.Nat.{ℕ, ◌+◌, ◌∣◌}
+use mathlib.Core.Path.{◌≡◌, refl, ◌∙◌, subst}
+use Prim.Native.Nat.{ℕ, min, ◌+◌, ◌-◌, ◌∣◌}
 use native.Mathlib.Nat.{div-le_self, dvd-zero, dvd-sub, dvd-mod_iff}
 use native.Mathlib.Omega.{arith}
 use Rattle.laws.specs.ProductLaws.{product_le}
@@ -9,11 +9,17 @@ use Rattle.panel.specs.Geometry.{width, height}
 use Rattle.drawing.specs.Colour.{lending}
 use Rattle.drawing.proofs.Formats.{sized-format, row-by-table}
 use Rattle.pixels.specs.Format.{format}
-use Rattle.drawing.specs.Core.{per_word}
+use Rattle.memory.specs.declared.Screen.{Screen}
+use Rattle.drawing.specs.Core.{per_word, ByRows}
 use Rattle.drawing.proofs.Parts.{dvd-min, part-lent}
 use Rattle.drawing.proofs.Numbers.{colour-is, in_order}
 use Rattle.drawing.proofs.Rows.{begin, Turn, some, one-row, few, next, its-row, its-column}
 use Rattle.drawing.proofs.picture.draw_rows.Goals as goal
+
+-- a turn draws whole words of the row
+turn-whole : (s : Screen) (lent column left n : ℕ) → ByRows s lent → n ≡ min (width s.words - column) left
+    → per_word (format s.words) ∣ column → per_word (format s.words) ∣ left → per_word (format s.words) ∣ n
+turn-whole s lent column left n rows takes begins whole = rw takes (dvd-min _ _ _ (dvd-sub _ rows.whole begins) whole)
 
 pub overflow_cast-row : goal.overflow_cast-row
 overflow_cast-row c =
@@ -38,87 +44,81 @@ loop-done-init c =
 pub overflow_sub-wide : goal.overflow_sub-wide
 overflow_sub-wide c = omega (arith, c.width-wide.ensures, c.loop-done.invariant.0.column-lt)
 
-pub overflow_add-first : goal.overflow_add-first
-overflow_add-first c = omega (arith, c.requires.3)
-
 pub draw_columns-requires : goal.draw_columns-requires
 draw_columns-requires c =
-    let turn : Turn (width c.args.s.words) (height c.args.s.words) c.args.first
-    c.args.count c.loop-done.done c.loop-done.row c.loop-done.column c.least-n.result =
+    let w = c.args.s.words in
+    let t : Turn (width w) (height w) c.args.first c.args.count c.loop-done.done c.loop-done.row c.loop-done.column c.least-n.result =
         record {
-      fits = c.requires.2;
-      standing = c.loop-done.invariant.0;
-      more = c.loop-done-test.true;
-      takes = rw (← c.width-wide.ensures) c.least-n.ensures;
-    } in
-    let turn-whole : per_word (format c.args.s.words) ∣ c.least-n.result =
-        let at = c.loop-done in
-    rw turn.takes (dvd-min _ _ _ (dvd-sub _ c.requires.0.whole (at.invariant.2 (omega (arith, c.loop-done-test.true)))) at.invariant.3) in
+          fits = c.requires.2;
+          standing = c.loop-done.invariant.0;
+          more = c.loop-done-test.true;
+          takes = rw (← c.width-wide.ensures) c.least-n.ensures;
+        } in
     let at = c.loop-done in
-    let begins = at.invariant.2 (omega (arith, c.loop-done-test.true)) in (
+    let begins = at.invariant.2 (omega arith) in
+    let whole = turn-whole _ _ _ _ _ c.requires.0 t.takes begins at.invariant.3 in
+    (
       record {
         legal = rw c.format_of-f.ensures c.requires.0.legal;
         room = c.fill_table.ensures.room;
         begins = rw c.format_of-f.ensures begins;
         lent =
             record {
-              whole = rw c.format_of-f.ensures turn-whole;
+              whole = rw c.format_of-f.ensures whole;
               inside =
                   rw c.format_of-f.ensures
                   (omega (
                     arith,
                     c.first_word-base.ensures.value,
-                    part-lent _ _ c.requires.0 _ _ _ (turn.standing.inside turn.more) begins turn-whole (one-row _ _ _ _ _ _ _ _ turn),
+                    part-lent _ _ c.requires.0 _ _ _ (t.standing.inside t.more) begins whole (one-row _ _ _ _ _ _ _ _ t),
                   ));
             };
-        short = omega (arith, one-row _ _ _ _ _ _ _ _ turn);
+        short = omega (arith, one-row _ _ _ _ _ _ _ _ t);
       },
-      omega (arith, c.requires.3, at.invariant.1.size, few _ _ _ _ _ _ _ _ turn),
+      omega (arith, c.requires.3, at.invariant.1.size, few _ _ _ _ _ _ _ _ t),
     )
 
 pub overflow_add-done : goal.overflow_add-done
 overflow_add-done c =
-    let turn : Turn (width c.args.s.words) (height c.args.s.words) c.args.first
-    c.args.count c.loop-done.done c.loop-done.row c.loop-done.column c.least-n.result =
+    let w = c.args.s.words in
+    let t : Turn (width w) (height w) c.args.first c.args.count c.loop-done.done c.loop-done.row c.loop-done.column c.least-n.result =
         record {
-      fits = c.requires.2;
-      standing = c.loop-done.invariant.0;
-      more = c.loop-done-test.true;
-      takes = rw (← c.width-wide.ensures) c.least-n.ensures;
-    } in
-    omega (arith, few _ _ _ _ _ _ _ _ turn)
+          fits = c.requires.2;
+          standing = c.loop-done.invariant.0;
+          more = c.loop-done-test.true;
+          takes = rw (← c.width-wide.ensures) c.least-n.ensures;
+        } in
+    omega (arith, few _ _ _ _ _ _ _ _ t)
 
 pub overflow_add-row : goal.overflow_add-row
 overflow_add-row c = omega (arith, c.loop-done.invariant.0.row-le)
 
 pub loop-done-smaller : goal.loop-done-smaller
 loop-done-smaller c =
-    let turn : Turn (width c.args.s.words) (height c.args.s.words) c.args.first
-    c.args.count c.loop-done.done c.loop-done.row c.loop-done.column c.least-n.result =
+    let w = c.args.s.words in
+    let t : Turn (width w) (height w) c.args.first c.args.count c.loop-done.done c.loop-done.row c.loop-done.column c.least-n.result =
         record {
-      fits = c.requires.2;
-      standing = c.loop-done.invariant.0;
-      more = c.loop-done-test.true;
-      takes = rw (← c.width-wide.ensures) c.least-n.ensures;
-    } in
-    omega (arith, some _ _ _ _ _ _ _ _ turn, few _ _ _ _ _ _ _ _ turn)
+          fits = c.requires.2;
+          standing = c.loop-done.invariant.0;
+          more = c.loop-done-test.true;
+          takes = rw (← c.width-wide.ensures) c.least-n.ensures;
+        } in
+    omega (arith, some _ _ _ _ _ _ _ _ t, few _ _ _ _ _ _ _ _ t)
 
 pub loop-done-preserved : goal.loop-done-preserved
 loop-done-preserved c =
-    let turn : Turn (width c.args.s.words) (height c.args.s.words) c.args.first
-    c.args.count c.loop-done.done c.loop-done.row c.loop-done.column c.least-n.result =
+    let w = c.args.s.words in
+    let t : Turn (width w) (height w) c.args.first c.args.count c.loop-done.done c.loop-done.row c.loop-done.column c.least-n.result =
         record {
-      fits = c.requires.2;
-      standing = c.loop-done.invariant.0;
-      more = c.loop-done-test.true;
-      takes = rw (← c.width-wide.ensures) c.least-n.ensures;
-    } in
-    let turn-whole : per_word (format c.args.s.words) ∣ c.least-n.result =
-        let at = c.loop-done in
-    rw turn.takes (dvd-min _ _ _ (dvd-sub _ c.requires.0.whole (at.invariant.2 (omega (arith, c.loop-done-test.true)))) at.invariant.3) in
-    let a = c.args in
-    let t = turn in
-    let at = c.loop-done in (
+          fits = c.requires.2;
+          standing = c.loop-done.invariant.0;
+          more = c.loop-done-test.true;
+          takes = rw (← c.width-wide.ensures) c.least-n.ensures;
+        } in
+    let at = c.loop-done in
+    let begins = at.invariant.2 (omega arith) in
+    let whole = turn-whole _ _ _ _ _ c.requires.0 t.takes begins at.invariant.3 in
+    let a = c.args in (
       next _ _ _ _ _ _ _ _ t,
       some_more _ _ _ _ _ at.invariant.1 _ _ _ _ c.draw_columns.ensures refl
           (λ i h.
@@ -126,11 +126,8 @@ loop-done-preserved c =
           ∙ colour-is a.s (lending a.video.now a.palette.now) at.row _ _ c.format_of-f.ensures c.first_word-base.ensures.value (at.column + i)
           ∙ in_order a.s _ _ _ _ (its-row _ _ _ _ _ _ _ _ t i h) (its-column _ _ _ _ _ _ _ _ t i h)),
       λ more. dvd-zero _,
-      subst (λ (k : ℕ). per_word (format a.s.words) ∣ k) (omega arith) (dvd-sub _ at.invariant.3 turn-whole),
+      subst (λ (k : ℕ). per_word (format a.s.words) ∣ k) (omega arith) (dvd-sub _ at.invariant.3 whole),
     )
-
-pub shape_of-picture : goal.shape_of-picture
-shape_of-picture c = c.loop-done.invariant.1.size
 
 pub returns : goal.returns
 returns c = all-stored _ _ _ _ _ c.loop-done.invariant.1 _ (omega (arith, c.loop-done.invariant.0.upto))

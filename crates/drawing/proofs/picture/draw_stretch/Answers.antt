@@ -4,97 +4,31 @@ use mathlib.Core.Path.{◌≡◌, ap, ◌∙◌}
 use Prim.Native.Nat.{ℕ}
 use native.Mathlib.Omega.{arith}
 use lib.ListN.{length}
-use Rattle.drawing.specs.Colour.{lending}
+use Rattle.memory.specs.declared.Screen.{Screen}
+use Rattle.drawing.specs.Colour.{Lent}
 use Rattle.drawing.specs.Drawing.{fitting, pixels_stored, draw_stretch}
 use Rattle.drawing.proofs.picture.draw_stretch.Goals as goal
 
+-- drawing that many is drawing the stretch
+drawn : (s : Screen) (l : Lent) (first count n : ℕ) (picture left : List ℕ) → n ≡ fitting s.words first count (length picture)
+    → left ≡ pixels_stored s l first n picture → left ≡ draw_stretch s l first count picture
+unfolding draw_stretch
+drawn s l first count n picture left fits e = e ∙ ap (λ (k : ℕ). pixels_stored s l first k picture) fits
+
 pub draw_few-requires : goal.draw_few-requires
-draw_few-requires c =
-    let count-is : c.least-n.result ≡ fitting c.args.s.words c.args.first c.args.count (length c.args.picture.now) =
-        omega (
-      arith,
-      c.least-n.ensures,
-      c.beyond.ensures,
-      c.least-end.ensures,
-      c.pixels_of.ensures.value,
-    ) in
-    (omega (arith, count-is), omega (arith, count-is))
+draw_few-requires c = (omega arith, omega arith)
 
 pub draw_parts-requires : goal.draw_parts-requires
-draw_parts-requires c =
-    let count-is : c.least-n.result ≡ fitting c.args.s.words c.args.first c.args.count (length c.args.picture.now) =
-        omega (
-      arith,
-      c.least-n.ensures,
-      c.beyond.ensures,
-      c.least-end.ensures,
-      c.pixels_of.ensures.value,
-    ) in
-    (
-      c.by_rows.ensures c.if-by_rows.true,
-      omega (arith, count-is, c.if-n-lt8.false),
-      omega (arith, count-is, c.if-n-lt8.false),
-    )
+draw_parts-requires c = (c.by_rows.ensures c.if-by_rows.true, omega arith, omega arith)
 
 pub draw_few-requires-else-by_rows : goal.draw_few-requires-else-by_rows
-draw_few-requires-else-by_rows c =
-    let count-is : c.least-n.result ≡ fitting c.args.s.words c.args.first c.args.count (length c.args.picture.now) =
-        omega (
-      arith,
-      c.least-n.ensures,
-      c.beyond.ensures,
-      c.least-end.ensures,
-      c.pixels_of.ensures.value,
-    ) in
-    (omega (arith, count-is), omega (arith, count-is))
+draw_few-requires-else-by_rows c = (omega arith, omega arith)
 
 pub returns-then-n-lt8 : goal.returns-then-n-lt8
-unfolding draw_stretch
-returns-then-n-lt8 c =
-    let count-is : c.least-n.result ≡ fitting c.args.s.words c.args.first c.args.count (length c.args.picture.now) =
-        omega (
-      arith,
-      c.least-n.ensures,
-      c.beyond.ensures,
-      c.least-end.ensures,
-      c.pixels_of.ensures.value,
-    ) in
-    let drawn : (left : List ℕ) → left ≡ pixels_stored c.args.s (lending c.args.video.now c.args.palette.now) c.args.first c.least-n.result c.args.picture.now
-    → left ≡ draw_stretch c.args.s (lending c.args.video.now c.args.palette.now) c.args.first c.args.count c.args.picture.now =
-        λ left e. let a = c.args in
-    e ∙ ap (λ (k : ℕ). pixels_stored a.s (lending c.args.video.now c.args.palette.now) a.first k a.picture.now) count-is in
-    drawn _ c.draw_few.ensures
+returns-then-n-lt8 c = drawn _ _ _ _ _ _ _ (omega arith) c.draw_few.ensures
 
 pub returns-then-by_rows : goal.returns-then-by_rows
-unfolding draw_stretch
-returns-then-by_rows c =
-    let count-is : c.least-n.result ≡ fitting c.args.s.words c.args.first c.args.count (length c.args.picture.now) =
-        omega (
-      arith,
-      c.least-n.ensures,
-      c.beyond.ensures,
-      c.least-end.ensures,
-      c.pixels_of.ensures.value,
-    ) in
-    let drawn : (left : List ℕ) → left ≡ pixels_stored c.args.s (lending c.args.video.now c.args.palette.now) c.args.first c.least-n.result c.args.picture.now
-    → left ≡ draw_stretch c.args.s (lending c.args.video.now c.args.palette.now) c.args.first c.args.count c.args.picture.now =
-        λ left e. let a = c.args in
-    e ∙ ap (λ (k : ℕ). pixels_stored a.s (lending c.args.video.now c.args.palette.now) a.first k a.picture.now) count-is in
-    drawn _ c.draw_parts.ensures
+returns-then-by_rows c = drawn _ _ _ _ _ _ _ (omega arith) c.draw_parts.ensures
 
 pub returns-else-by_rows : goal.returns-else-by_rows
-unfolding draw_stretch
-returns-else-by_rows c =
-    let count-is : c.least-n.result ≡ fitting c.args.s.words c.args.first c.args.count (length c.args.picture.now) =
-        omega (
-      arith,
-      c.least-n.ensures,
-      c.beyond.ensures,
-      c.least-end.ensures,
-      c.pixels_of.ensures.value,
-    ) in
-    let drawn : (left : List ℕ) → left ≡ pixels_stored c.args.s (lending c.args.video.now c.args.palette.now) c.args.first c.least-n.result c.args.picture.now
-    → left ≡ draw_stretch c.args.s (lending c.args.video.now c.args.palette.now) c.args.first c.args.count c.args.picture.now =
-        λ left e. let a = c.args in
-    e ∙ ap (λ (k : ℕ). pixels_stored a.s (lending c.args.video.now c.args.palette.now) a.first k a.picture.now) count-is in
-    drawn _ c.draw_few-else-by_rows.ensures
+returns-else-by_rows c = drawn _ _ _ _ _ _ _ (omega arith) c.draw_few-else-by_rows.ensures

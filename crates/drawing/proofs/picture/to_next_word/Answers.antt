@@ -17,7 +17,8 @@ overflow_mul-bit c =
 pub returns-then-bit-eq0 : goal.returns-then-bit-eq0
 returns-then-bit-eq0 c =
     record {
-      bits_value = ap (λ (n : ℕ). n % (32 / c.args.bits)) (add-zero c.args.column)
+      bits_value =
+          ap (λ (n : ℕ). n % (32 / c.args.bits)) (add-zero c.args.column)
           ∙ begins-word c.args.bits c.requires.0 c.requires.1 c.args.column c.if-bit-eq0.true;
       upper_bound = omega arith;
     }
