@@ -1,4 +1,5 @@
 -- `scans::run_on` meets its contract.
+-- the slice that a call leaves, by its number
 use native.Mathlib.Omega.{arith}
 use borrow.Author.Rules.{rules}
 use mathlib.Core.List.{List}
@@ -14,10 +15,8 @@ use Rattle.scanout.specs.Calls.{Run, count_of, drawn, judge_run, run, running}
 use Rattle.scanout.specs.State.{after}
 use Rattle.scanout.specs.declared.state.State.{State}
 use Rattle.scans.specs.Scan.{state_of, put_state, run_leaves, run_left}
-use Rattle.scans.proofs.run_on.Statement.{statement}
-use Rattle.scans.proofs.run_on.Tie as tie
+use Rattle.scans.proofs.run_on.Goals as goal
 
--- the slice that a call leaves, by its number
 left-written : (n : ℕ) (was written : List ℕ) → n ≡ 0 → (outcome n was written).left ≡ written
 unfolding outcome
 left-written n was written z = ap (λ (k : ℕ). (outcome k was written).left) z
@@ -76,55 +75,18 @@ module _ (s : State) (l : Lent) (n : ℕ) (picture : List ℕ) (x : Answer Taken
     took-none m e =
         ap (λ (p : List ℕ). run_leaves m scan p taken) (picture-stays m e) ∙ ap (run_left l scan picture taken) (e ∙ answer-is)
 
--- a run that is accepted
-abbrev state-put : tie.After-slice-known5 → tie.After-put-state
-state-put c = c.before.before
-
-abbrev counted-in : tie.After-put-state → tie.After-n
-counted-in c = c.before.before.before
-
-abbrev made : tie.After-n → tie.After-run
-made c = c.before.before.before.before
-
-abbrev start_of : tie.After-run → tie.Start
-start_of c = c.before.before.before.before.before.before.before
-
 abbrev taken-by : tie.After-n → Taken
 taken-by c = let n = c.n.given.0 in record { count = n.0; next = n.1.0 }
 
-cast-taken : tie.Need-overflow-cast-taken
-cast-taken c =
-    let n = counted-in (state-put c) in
-    record { fits = count_fits _ _ _ _ _ _ (made n).run.ensures (taken-by n) (sym (ap ran n.n.given.1)) }
+pub overflow_cast-taken : goal.overflow_cast-taken
+overflow_cast-taken c =
+    record { fits = count_fits _ _ _ _ _ _ c.run.ensures (taken-by c) (sym (ap ran c.in-Took.is)) }
 
-returns : tie.Need-returns
-returns c =
-    let n = counted-in (state-put c) in
-    took _ _ _ _ _ _ (made n).run.ensures _ _ (taken-by n) _ (sym (ap ran n.n.given.1)) (start_of (made n)).requires.2
-    (state-put c).put-state.ensures
+pub returns-in-Took : goal.returns-in-Took
+returns-in-Took c =
+    took _ _ _ _ _ _ c.run.ensures _ _ (taken-by c) _ (sym (ap ran c.in-Took.is)) c.requires.2
+    c.put_state.ensures
 
--- and one that is refused
-abbrev made-not : tie.After-n2 → tie.After-run
-made-not c = c.before.before.before.before
-
-returns-2 : tie.Need-returns-2
-returns-2 c =
-    let n = c.before.n2.given in
-    took-none _ _ _ _ _ _ (made-not c.before).run.ensures _ _ n.0.0 (sym (ap ran n.1))
-
-pub run-on-spec : {M : Type 1} → statement M
-run-on-spec =
-    tie.close
-    (tie.spec
-    (λ c κs. tt)
-    (λ c. search rules)
-    (λ c κs. search rules)
-    cast-taken
-    (λ c. search rules)
-    (λ c. search rules)
-    (λ c. search rules)
-    (λ c. search rules)
-    (λ c. search rules)
-    returns
-    (λ c. search rules)
-    returns-2)
+pub returns-in-Refused : goal.returns-in-Refused
+returns-in-Refused c =
+    took-none _ _ _ _ _ _ c.run.ensures _ _ c.in-Refused.n (sym (ap ran c.in-Refused.is))

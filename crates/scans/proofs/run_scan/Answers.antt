@@ -1,4 +1,5 @@
 -- `scans::run_scan` meets its contract.
+-- with an entry for the count it is judged as the scan's run
 use borrow.Author.Rules.{rules}
 use borrow.Author.Tests.{lt-ltb, le-ltb}
 use mathlib.Core.Bool.{Bool, true, false, ◌||◌}
@@ -16,10 +17,8 @@ use Rattle.scanout.specs.Refusals.{judge_scan}
 use Rattle.scanout.specs.declared.state.State.{State}
 use Rattle.scans.specs.Scan.{state_of, short_of_state, load_scan, short_of_count, run_on, RunLeft, run_leaves, run_left, run_scan}
 use Rattle.scans.proofs.Calls.{no-state-read, state-read, short-is-refused}
-use Rattle.scans.proofs.run_scan.Statement.{statement}
-use Rattle.scans.proofs.run_scan.Tie as tie
+use Rattle.scans.proofs.run_scan.Goals as goal
 
--- with an entry for the count it is judged as the scan's run
 as-run : (s : State) (l : Lent) (n : ℕ) (picture taken : List ℕ) → short_of_count taken ≡ false
     → (run s l n picture).answer ≡ run_on s l n picture taken
 unfolding run judge_run run_on
@@ -53,52 +52,22 @@ module _ (scan memory palette : List ℕ) (n : ℕ) (picture taken : List ℕ) w
 
     runs : (s : State) (o : RunLeft) → short_of_count taken ≡ false → s ≡ state_of scan
         → o ≡ run_left lent scan picture taken (run s lent n picture).answer → o ≡ run_scan scan memory palette n picture taken
-    runs s o room e v =
+    runs s o e v =
         v
         ∙ ap (λ (k : State). run_left lent scan picture taken (run k lent n picture).answer) e
         ∙ ap (run_left lent scan picture taken) (as-run (state_of scan) lent n picture taken room)
         ∙ of-state
 
--- a run that lacks room for the count
-abbrev no_room : tie.After-judge-short → tie.Then1
-no_room c = c.before.before
-
-returns : tie.Need-returns
+pub returns-then-taken-lt1 : goal.returns-then-taken-lt1
 unfolding too_short
-returns c = short _ _ _ _ _ _ _ (lt-ltb _ _ (no_room c).if1.true) c.judge-short.ensures
+returns-then-taken-lt1 c = short _ _ _ _ _ _ _ (lt-ltb _ _ c.if-taken-lt1.true) c.judge_short.ensures
 
-returns-2 : tie.Need-returns-2
+pub returns-then-scan-lt13 : goal.returns-then-scan-lt13
 unfolding too_short
-returns-2 c = unread _ _ _ _ _ _ (lt-ltb _ _ c.if2.true)
+returns-then-scan-lt13 c = unread _ _ _ _ _ _ (lt-ltb _ _ c.if-scan-lt13.true)
 
--- and one that has it
-abbrev ran : tie.After-slice-known6 → tie.After-run-on
-ran c = c.before.before.before.before.before.before
-
-abbrev state-read-in : tie.After-run-on → tie.After-state-of
-state-read-in c = c.before.before.before.before
-
-abbrev room : tie.After-state-of → tie.Else2
-room c = c.before.before
-
-returns-3 : tie.Need-returns-3
+pub returns : goal.returns
 unfolding too_short
-returns-3 c =
-    let s = state-read-in (ran c) in
-    runs _ _ _ _ _ _ (le-ltb _ _ (room s).if2.left) _ _ (le-ltb _ _ (room s).before.if1.left) s.state-of.ensures
-    (ran c).run_on.ensures
-
-pub run-scan-spec : {M : Type 1} → statement M
-run-scan-spec =
-    tie.close
-    (tie.spec
-    (λ c κs. tt)
-    (λ c. search rules)
-    returns
-    returns-2
-    (λ c κs. search rules)
-    (λ c κs. search rules)
-    (λ c. search rules)
-    (λ c. search rules)
-    (λ c. search rules)
-    returns-3)
+returns c =
+    runs _ _ _ _ _ _ (le-ltb _ _ c.if-scan-lt13.left) _ _ (le-ltb _ _ c.if-taken-lt1.left) c.state_of-s.ensures
+    c.run_on.ensures

@@ -1,4 +1,5 @@
 -- `scans::step_scan` meets its contract.
+-- with enough entries for the levels it is judged as the scan's step
 use borrow.Author.Rules.{rules}
 use borrow.Author.Tests.{lt-ltb, le-ltb}
 use mathlib.Core.Bool.{true, false}
@@ -14,13 +15,11 @@ use Rattle.scanout.specs.Refusals.{judge_scan}
 use Rattle.scanout.specs.declared.state.State.{State}
 use Rattle.scans.specs.Scan.{state_of, short_of_state, load_scan, short_of_levels, step_on, StepLeft, step_leaves, step_left, step_scan}
 use Rattle.scans.proofs.Calls.{no-state-read, state-read, short-is-refused}
-use Rattle.scans.proofs.step_scan.Statement.{statement}
-use Rattle.scans.proofs.step_scan.Tie as tie
+use Rattle.scans.proofs.step_scan.Goals as goal
 
--- with enough entries for the levels it is judged as the scan's step
 as_step : (s : State) (l : Lent) (clock : List ℕ) → short_of_levels clock ≡ false → step s l ≡ step_on s l clock
 unfolding step judge_step step_on
-as_step s l clock room = rw room refl
+as_step s l clock room = rw refl
 
 module _ (scan memory palette clock : List ℕ) where
   unread : short_of_state scan ≡ true → step_leaves 10 scan clock ≡ step_scan scan memory palette clock
@@ -42,51 +41,22 @@ module _ (scan memory palette clock : List ℕ) where
 
     steps : (s : State) (o : StepLeft) → short_of_levels clock ≡ false → s ≡ state_of scan
         → o ≡ step_left scan clock (step s (lending memory palette)) → o ≡ step_scan scan memory palette clock
-    steps s o room e v =
+    steps s o e v =
         v
         ∙ ap (λ (k : State). step_left scan clock (step k (lending memory palette))) e
         ∙ ap (step_left scan clock) (as_step (state_of scan) (lending memory palette) clock room)
         ∙ of-state
 
--- a step that lacks room for the levels
-abbrev no_room : tie.After-judge-short → tie.Then1
-no_room c = c.before.before
-
-returns : tie.Need-returns
+pub returns-then-clock-lt4 : goal.returns-then-clock-lt4
 unfolding too_short
-returns c = short _ _ _ _ _ (lt-ltb _ _ (no_room c).if1.true) c.judge-short.ensures
+returns-then-clock-lt4 c = short _ _ _ _ _ (lt-ltb _ _ c.if-clock-lt4.true) c.judge_short.ensures
 
-returns-2 : tie.Need-returns-2
+pub returns-then-scan-lt13 : goal.returns-then-scan-lt13
 unfolding too_short
-returns-2 c = unread _ _ _ _ (lt-ltb _ _ c.if2.true)
+returns-then-scan-lt13 c = unread _ _ _ _ (lt-ltb _ _ c.if-scan-lt13.true)
 
--- and one that has it
-abbrev stepped : tie.After-slice-known4 → tie.After-step-on
-stepped c = c.before.before.before.before
-
-abbrev state-read-in : tie.After-step-on → tie.After-state-of
-state-read-in c = c.before.before.before
-
-abbrev room : tie.After-state-of → tie.Else2
-room c = c.before.before
-
-returns-3 : tie.Need-returns-3
+pub returns : goal.returns
 unfolding too_short
-returns-3 c =
-    let s = state-read-in (stepped c) in
-    steps _ _ _ _ (le-ltb _ _ (room s).if2.left) _ _ (le-ltb _ _ (room s).before.if1.left) s.state-of.ensures
-    (stepped c).step-on.ensures
-
-pub step-scan-spec : {M : Type 1} → statement M
-step-scan-spec =
-    tie.close
-    (tie.spec
-    (λ c κs. tt)
-    (λ c. search rules)
-    returns
-    returns-2
-    (λ c κs. search rules)
-    (λ c κs. search rules)
-    (λ c. search rules)
-    (λ c. search rules)
-    returns-3)
+returns c =
+    steps _ _ _ _ (le-ltb _ _ c.if-scan-lt13.left) _ _ (le-ltb _ _ c.if-clock-lt4.left) c.state_of-s.ensures
+    c.step_on.ensures

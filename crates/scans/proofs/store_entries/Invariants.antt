@@ -1,0 +1,14 @@
+-- `scans::store_entries` meets its contract.
+use mathlib.Core.Path.{refl}
+use Prim.Native.Nat.{◌-◌, ◌≤◌}
+use native.Mathlib.Omega.{arith}
+use borrow.Author.Rules.{rules}
+use lib.ListN.{length, get_or}
+use Rattle.laws.specs.StoringLaws.{Stored, none-stored, one_more, all-stored}
+use Rattle.scans.proofs.store_entries.Given as goal
+
+abbrev pub invariant-loop-i : goal.invariant-loop-i
+invariant-loop-i l = (l.i ≤ length l.entries) × Stored (λ k. get_or l.entries k 0) 0 l.initial.slice l.slice l.i
+
+abbrev pub decreases-loop-i : goal.decreases-loop-i
+decreases-loop-i l = length l.entries - l.i
