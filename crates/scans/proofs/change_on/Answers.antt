@@ -1,6 +1,5 @@
 -- `scans::change_on` meets its contract.
 -- where the change is accepted
-use borrow.Author.Rules.{rules}
 use mathlib.Core.Path.{sym, ap, ◌∙◌}
 use Rattle.laws.specs.Answers.{leaves}
 use Rattle.laws.specs.AnswerLaws.{writes-on, leaves-on}

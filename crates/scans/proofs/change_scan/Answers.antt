@@ -1,5 +1,4 @@
 -- `scans::change_scan` meets its contract.
-use borrow.Author.Rules.{rules}
 use borrow.Author.Tests.{lt-ltb, le-ltb}
 use native.Mathlib.Omega.{arith}
 use Rattle.laws.specs.AnswerLaws.{one-refuses, one-accepts, writes-on, leaves-on}
@@ -14,5 +13,5 @@ returns-then-scan-lt13 c = leaves-on _ _ _ 10 (one-refuses 10 _ _ (omega arith) 
 pub returns : goal.returns
 unfolding change_scan load_scan too_short
 returns c =
-    writes-on _ _ _ c.state_of-s.result _ (one-accepts 10 _ _ _ (le-ltb _ _ c.if-scan-lt13.left) c.state_of-s.ensures)
+    writes-on _ _ _ c.state_of-s.result _ (one-accepts 10 _ _ _ (le-ltb _ _ c.if-scan-lt13.false) c.state_of-s.ensures)
     c.change_on.ensures

@@ -1,6 +1,5 @@
 -- `scans::judge_short` meets its contract.
 use native.Mathlib.Omega.{arith}
-use borrow.Author.Rules.{rules}
 use borrow.Author.Tests.{lt-ltb, le-ltb}
 use Rattle.laws.specs.AnswerLaws.{one-refuses, one-accepts, judges-on, passes-number}
 use Rattle.registers.specs.Loading.{too_short}
@@ -14,5 +13,5 @@ returns-then-scan-lt13 c = passes-number _ _ 10 (one-refuses 10 _ _ (omega arith
 pub returns : goal.returns
 unfolding load_scan too_short
 returns c =
-    judges-on _ _ c.state_of.result _ (one-accepts 10 _ _ _ (le-ltb _ _ c.if-scan-lt13.left) c.state_of.ensures)
+    judges-on _ _ c.state_of.result _ (one-accepts 10 _ _ _ (le-ltb _ _ c.if-scan-lt13.false) c.state_of.ensures)
     c.judge_scan.ensures

@@ -1,5 +1,4 @@
 -- `scans::put_levels` meets its contract.
-use borrow.Author.Rules.{rules}
 use Rattle.scans.specs.Scan.{put_levels}
 use Rattle.scans.proofs.put_levels.Goals as goal
 

@@ -1,6 +1,5 @@
 -- `scans::put_started` meets its contract.
 use native.Mathlib.Omega.{arith}
-use borrow.Author.Rules.{rules}
 use borrow.Author.Tests.{lt-ltb, le-ltb}
 use mathlib.Core.Path.{sym}
 use Rattle.laws.specs.AnswerLaws.{leaves-as-it-was, leaves-written}

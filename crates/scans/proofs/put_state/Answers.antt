@@ -1,5 +1,4 @@
 -- `scans::put_state` meets its contract.
-use borrow.Author.Rules.{rules}
 use Rattle.scans.specs.Scan.{put_state}
 use Rattle.scans.proofs.put_state.Goals as goal
 

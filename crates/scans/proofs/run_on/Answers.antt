@@ -1,7 +1,6 @@
 -- `scans::run_on` meets its contract.
 -- the slice that a call leaves, by its number
 use native.Mathlib.Omega.{arith}
-use borrow.Author.Rules.{rules}
 use mathlib.Core.List.{List}
 use mathlib.Core.Path.{◌≡◌, refl, sym, ap, ap₂, ◌∙◌}
 use Prim.Native.Nat.{ℕ, zero, suc, ◌<◌}
@@ -75,16 +74,13 @@ module _ (s : State) (l : Lent) (n : ℕ) (picture : List ℕ) (x : Answer Taken
     took-none m e =
         ap (λ (p : List ℕ). run_leaves m scan p taken) (picture-stays m e) ∙ ap (run_left l scan picture taken) (e ∙ answer-is)
 
-abbrev taken-by : tie.After-n → Taken
-taken-by c = let n = c.n.given.0 in record { count = n.0; next = n.1.0 }
-
 pub overflow_cast-taken : goal.overflow_cast-taken
 overflow_cast-taken c =
-    record { fits = count_fits _ _ _ _ _ _ c.run.ensures (taken-by c) (sym (ap ran c.in-Took.is)) }
+    record { fits = count_fits _ _ _ _ _ _ c.run.ensures (record { count = c.in-Took.n; next = c.in-Took.t }) (sym (ap ran c.in-Took.is)) }
 
 pub returns-in-Took : goal.returns-in-Took
 returns-in-Took c =
-    took _ _ _ _ _ _ c.run.ensures _ _ (taken-by c) _ (sym (ap ran c.in-Took.is)) c.requires.2
+    took _ _ _ _ _ _ c.run.ensures _ _ (record { count = c.in-Took.n; next = c.in-Took.t }) _ (sym (ap ran c.in-Took.is)) c.requires.2
     c.put_state.ensures
 
 pub returns-in-Refused : goal.returns-in-Refused

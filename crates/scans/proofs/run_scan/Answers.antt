@@ -1,6 +1,5 @@
 -- `scans::run_scan` meets its contract.
 -- with an entry for the count it is judged as the scan's run
-use borrow.Author.Rules.{rules}
 use borrow.Author.Tests.{lt-ltb, le-ltb}
 use mathlib.Core.Bool.{Bool, true, false, ◌||◌}
 use mathlib.Core.List.{List}
@@ -52,7 +51,7 @@ module _ (scan memory palette : List ℕ) (n : ℕ) (picture taken : List ℕ) w
 
     runs : (s : State) (o : RunLeft) → short_of_count taken ≡ false → s ≡ state_of scan
         → o ≡ run_left lent scan picture taken (run s lent n picture).answer → o ≡ run_scan scan memory palette n picture taken
-    runs s o e v =
+    runs s o room e v =
         v
         ∙ ap (λ (k : State). run_left lent scan picture taken (run k lent n picture).answer) e
         ∙ ap (run_left lent scan picture taken) (as-run (state_of scan) lent n picture taken room)
@@ -69,5 +68,5 @@ returns-then-scan-lt13 c = unread _ _ _ _ _ _ (lt-ltb _ _ c.if-scan-lt13.true)
 pub returns : goal.returns
 unfolding too_short
 returns c =
-    runs _ _ _ _ _ _ (le-ltb _ _ c.if-scan-lt13.left) _ _ (le-ltb _ _ c.if-taken-lt1.left) c.state_of-s.ensures
+    runs _ _ _ _ _ _ (le-ltb _ _ c.if-scan-lt13.false) _ _ (le-ltb _ _ c.if-taken-lt1.false) c.state_of-s.ensures
     c.run_on.ensures

@@ -1,6 +1,5 @@
 -- `scans::start_scan` meets its contract.
 -- a start that is accepted
-use borrow.Author.Rules.{rules}
 use mathlib.Core.Path.{sym, ap, ◌∙◌}
 use Rattle.laws.specs.AnswerLaws.{writes-on, leaves-on}
 use Rattle.scanout.specs.Answers.{started}

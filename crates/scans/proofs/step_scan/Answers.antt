@@ -1,6 +1,5 @@
 -- `scans::step_scan` meets its contract.
 -- with enough entries for the levels it is judged as the scan's step
-use borrow.Author.Rules.{rules}
 use borrow.Author.Tests.{lt-ltb, le-ltb}
 use mathlib.Core.Bool.{true, false}
 use mathlib.Core.List.{List}
@@ -19,7 +18,7 @@ use Rattle.scans.proofs.step_scan.Goals as goal
 
 as_step : (s : State) (l : Lent) (clock : List ℕ) → short_of_levels clock ≡ false → step s l ≡ step_on s l clock
 unfolding step judge_step step_on
-as_step s l clock room = rw refl
+as_step s l clock room = rw room refl
 
 module _ (scan memory palette clock : List ℕ) where
   unread : short_of_state scan ≡ true → step_leaves 10 scan clock ≡ step_scan scan memory palette clock
@@ -41,7 +40,7 @@ module _ (scan memory palette clock : List ℕ) where
 
     steps : (s : State) (o : StepLeft) → short_of_levels clock ≡ false → s ≡ state_of scan
         → o ≡ step_left scan clock (step s (lending memory palette)) → o ≡ step_scan scan memory palette clock
-    steps s o e v =
+    steps s o room e v =
         v
         ∙ ap (λ (k : State). step_left scan clock (step k (lending memory palette))) e
         ∙ ap (step_left scan clock) (as_step (state_of scan) (lending memory palette) clock room)
@@ -58,5 +57,5 @@ returns-then-scan-lt13 c = unread _ _ _ _ (lt-ltb _ _ c.if-scan-lt13.true)
 pub returns : goal.returns
 unfolding too_short
 returns c =
-    steps _ _ _ _ (le-ltb _ _ c.if-scan-lt13.left) _ _ (le-ltb _ _ c.if-clock-lt4.left) c.state_of-s.ensures
+    steps _ _ _ _ (le-ltb _ _ c.if-scan-lt13.false) _ _ (le-ltb _ _ c.if-clock-lt4.false) c.state_of-s.ensures
     c.step_on.ensures

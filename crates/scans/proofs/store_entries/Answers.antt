@@ -1,10 +1,7 @@
 -- `scans::store_entries` meets its contract.
 use mathlib.Core.Path.{refl}
-use Prim.Native.Nat.{◌-◌, ◌≤◌}
 use native.Mathlib.Omega.{arith}
-use borrow.Author.Rules.{rules}
-use lib.ListN.{length, get_or}
-use Rattle.laws.specs.StoringLaws.{Stored, none-stored, one_more, all-stored}
+use Rattle.laws.specs.StoringLaws.{none-stored, one_more, all-stored}
 use Rattle.scans.proofs.store_entries.Goals as goal
 
 pub loop-i-init : goal.loop-i-init
