@@ -1,17 +1,10 @@
 -- `stn::draw_stn` meets its contract.
 use mathlib.Core.Path.{◌≡◌, sym, ◌∙◌}
-use Prim.Native.Nat.{ℕ}
-use borrow.Author.Rules.{rules}
 use lib.ListN.{length}
 use Rattle.laws.specs.AnswerLaws.{leaves-as-it-was, leaves-written}
 use Rattle.stn.specs.Drawing.{judge_stn_drawing, draw_stn}
 use Rattle.stn.proofs.Judged.{rows-lent, bytes-lent}
 use Rattle.stn.proofs.draw_stn.Goals as goal
-
-abbrev judgement : tie.After-judge-drawing → ℕ
-judgement c =
-    let a = c.args in
-    judge_stn_drawing a.s (length a.video.now) (length a.out.now)
 
 pub returns-then-refusal-ne0 : goal.returns-then-refusal-ne0
 unfolding draw_stn
@@ -19,11 +12,13 @@ returns-then-refusal-ne0 c = leaves-as-it-was _ _ _ _ c.judge_drawing-refusal.en
 
 pub draw_frame-requires : goal.draw_frame-requires
 draw_frame-requires c =
-    let accepted : judgement c ≡ 0 = sym c.judge_drawing-refusal.ensures ∙ c.if-refusal-ne0.false in
+    let accepted : judge_stn_drawing c.args.s (length c.args.video.now) (length c.args.out.now) ≡ 0 =
+    sym c.judge_drawing-refusal.ensures ∙ c.if-refusal-ne0.false in
     (rows-lent _ _ _ accepted, bytes-lent _ _ _ accepted)
 
 pub returns : goal.returns
 unfolding draw_stn
 returns c =
-    let accepted : judgement c ≡ 0 = sym c.judge_drawing-refusal.ensures ∙ c.if-refusal-ne0.false in
+    let accepted : judge_stn_drawing c.args.s (length c.args.video.now) (length c.args.out.now) ≡ 0 =
+    sym c.judge_drawing-refusal.ensures ∙ c.if-refusal-ne0.false in
     leaves-written _ _ _ _ accepted c.draw_frame.ensures

@@ -1,6 +1,5 @@
 -- `stn::judge_drawing` meets its contract: 1 to 8, and then 9, 10 and 17.
 use mathlib.Core.Path.{refl, ap, ◌∙◌}
-use borrow.Author.Rules.{rules}
 use lib.Dec.{ltb}
 use Rattle.laws.specs.CaseLaws.{and-next, further}
 use Rattle.memory.specs.Memory.{stn_memory_cases, judge_stn_memory}

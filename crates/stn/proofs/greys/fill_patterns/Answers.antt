@@ -1,10 +1,9 @@
 -- `stn::greys::fill_patterns` meets its contract.
 use mathlib.Core.List.{List}
 use mathlib.Core.Path.{◌≡◌, sym, ap₂, ◌∙◌}
-use Prim.Native.Nat.{ℕ, ◌-◌, ◌≤◌}
+use Prim.Native.Nat.{ℕ}
 use native.Mathlib.Nat.{zero-add}
 use native.Mathlib.Omega.{arith}
-use borrow.Author.Rules.{rules}
 use lib.ListN.{length, get_or}
 use Rattle.laws.specs.StoringLaws.{Stored, none-stored, one_more, so-many-stored, entry-stored}
 use Rattle.stn.specs.Core.{pattern, Patterns}

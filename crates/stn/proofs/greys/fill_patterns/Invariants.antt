@@ -1,13 +1,7 @@
 -- `stn::greys::fill_patterns` meets its contract.
-use mathlib.Core.List.{List}
-use mathlib.Core.Path.{◌≡◌, sym, ap₂, ◌∙◌}
-use Prim.Native.Nat.{ℕ, ◌-◌, ◌≤◌}
-use native.Mathlib.Nat.{zero-add}
-use native.Mathlib.Omega.{arith}
-use borrow.Author.Rules.{rules}
-use lib.ListN.{length, get_or}
-use Rattle.laws.specs.StoringLaws.{Stored, none-stored, one_more, so-many-stored, entry-stored}
-use Rattle.stn.specs.Core.{pattern, Patterns}
+use Prim.Native.Nat.{◌-◌, ◌≤◌}
+use Rattle.laws.specs.StoringLaws.{Stored}
+use Rattle.stn.specs.Core.{pattern}
 use Rattle.stn.proofs.greys.fill_patterns.Given as goal
 
 abbrev pub invariant-loop-phase : goal.invariant-loop-phase

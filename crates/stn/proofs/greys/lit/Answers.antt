@@ -1,7 +1,6 @@
 -- `stn::greys::lit` meets its contract.
 use Prim.Native.Nat.{◌≤◌}
 use native.Mathlib.Omega.{arith}
-use borrow.Author.Rules.{rules}
 use Rattle.laws.specs.ProductLaws.{product_le}
 use Rattle.stn.specs.Greys.{lit}
 use Rattle.stn.proofs.Duties.{numerator-le, denominator-pos}

@@ -1,6 +1,6 @@
 -- `stn::greys::pattern_at` meets its contract.
-use mathlib.Core.Path.{◌≡◌, refl, ap, ◌∙◌}
-use Prim.Native.Nat.{◌-◌, ◌^◌, ◌<◌, ◌≤◌}
+use mathlib.Core.Path.{refl, ap, ◌∙◌}
+use Prim.Native.Nat.{◌-◌, ◌^◌, ◌<◌}
 use native.Mathlib.Omega.{arith}
 use Rattle.stn.specs.Core.{pattern}
 use Rattle.stn.specs.Greys.{duty, lit, bit, packed}

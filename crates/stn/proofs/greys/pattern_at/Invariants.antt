@@ -1,10 +1,7 @@
 -- `stn::greys::pattern_at` meets its contract.
-use mathlib.Core.Path.{◌≡◌, refl, ap, ◌∙◌}
-use Prim.Native.Nat.{◌-◌, ◌^◌, ◌<◌, ◌≤◌}
-use native.Mathlib.Omega.{arith}
-use Rattle.stn.specs.Core.{pattern}
-use Rattle.stn.specs.Greys.{duty, lit, bit, packed}
-use Rattle.stn.proofs.Packing.{bit-lt, bit-of-bool, packed-few, one-more-packed}
+use mathlib.Core.Path.{◌≡◌}
+use Prim.Native.Nat.{◌-◌, ◌≤◌}
+use Rattle.stn.specs.Greys.{duty, lit, packed}
 use Rattle.stn.proofs.greys.pattern_at.Given as goal
 
 abbrev pub invariant-loop-i : goal.invariant-loop-i

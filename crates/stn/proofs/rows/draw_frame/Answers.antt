@@ -1,7 +1,6 @@
 -- `stn::rows::draw_frame` meets its contract.
 use mathlib.Core.Bool.{true≢false}
 use mathlib.Core.Path.{sym, ◌∙◌}
-use borrow.Author.Rules.{rules}
 use Rattle.stn.proofs.rows.draw_frame.Goals as goal
 
 pub draw_rows-requires : goal.draw_rows-requires

@@ -1,17 +1,7 @@
 -- `stn::rows::draw_rows` meets its contract: a row a turn.
-use mathlib.Core.Bool.{Bool}
-use mathlib.Core.Path.{◌≡◌, sym, ap, ap₂, ◌∙◌}
-use Prim.Native.Nat.{ℕ, ◌-◌, ◌*◌, ◌/◌, ◌%◌, ◌<◌, ◌≤◌}
-use native.Mathlib.Nat.{add-mul}
-use native.Mathlib.Omega.{arith}
-use lib.Dec.{eqb}
-use Rattle.laws.specs.ProductLaws.{product_le}
-use Rattle.laws.specs.StoringLaws.{Stored, none-stored, some_more, so-many-stored, all-stored}
-use Rattle.panel.specs.Geometry.{height}
-use Rattle.stn.specs.Core.{bits_in, bytes_of}
+use Prim.Native.Nat.{◌-◌, ◌*◌, ◌≤◌}
+use Rattle.laws.specs.StoringLaws.{Stored}
 use Rattle.stn.specs.Drawing.{row_bytes, stn_byte}
-use Rattle.stn.specs.Greys.{row_byte}
-use Rattle.stn.proofs.FrameBytes.{row-in-frame, byte-of-frame, byte-by-phase}
 use Rattle.stn.proofs.rows.draw_rows.Given as goal
 
 abbrev pub invariant-loop-row : goal.invariant-loop-row

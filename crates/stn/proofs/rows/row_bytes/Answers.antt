@@ -5,4 +5,4 @@ use Rattle.stn.proofs.rows.row_bytes.Goals as goal
 
 pub returns : goal.returns
 unfolding row_bytes
-returns c = (omega (arith, c.stn_width.ensures), omega (arith, c.stn_width.ensures))
+returns c = record { value = omega (arith, c.stn_width.ensures); upper_bound = omega (arith, c.stn_width.ensures) }

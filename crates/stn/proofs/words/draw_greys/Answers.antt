@@ -1,10 +1,7 @@
 -- `stn::words::draw_greys` meets its contract: a word a turn.
-use mathlib.Core.Path.{◌≡◌, refl, ◌∙◌}
-use Prim.Native.Nat.{◌+◌, ◌-◌, ◌*◌, ◌%◌, ◌≤◌}
+use mathlib.Core.Path.{refl, ◌∙◌}
 use native.Mathlib.Omega.{arith}
-use borrow.Author.Rules.{rules}
-use Rattle.laws.specs.StoringLaws.{Stored, none-stored, one_more, all-stored}
-use Rattle.stn.specs.Greys.{row_byte}
+use Rattle.laws.specs.StoringLaws.{none-stored, one_more, all-stored}
 use Rattle.stn.proofs.RowBytes.{byte-of-greys}
 use Rattle.stn.proofs.words.draw_greys.Goals as goal
 

@@ -1,11 +1,8 @@
 -- `stn::words::draw_greys` meets its contract: a word a turn.
-use mathlib.Core.Path.{◌≡◌, refl, ◌∙◌}
+use mathlib.Core.Path.{◌≡◌}
 use Prim.Native.Nat.{◌+◌, ◌-◌, ◌*◌, ◌%◌, ◌≤◌}
-use native.Mathlib.Omega.{arith}
-use borrow.Author.Rules.{rules}
-use Rattle.laws.specs.StoringLaws.{Stored, none-stored, one_more, all-stored}
+use Rattle.laws.specs.StoringLaws.{Stored}
 use Rattle.stn.specs.Greys.{row_byte}
-use Rattle.stn.proofs.RowBytes.{byte-of-greys}
 use Rattle.stn.proofs.words.draw_greys.Given as goal
 
 abbrev pub invariant-loop-i : goal.invariant-loop-i

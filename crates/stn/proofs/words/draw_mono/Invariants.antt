@@ -1,11 +1,7 @@
 -- `stn::words::draw_mono` meets its contract: a word a turn.
-use mathlib.Core.Path.{refl}
 use Prim.Native.Nat.{◌-◌, ◌*◌, ◌≤◌}
-use native.Mathlib.Omega.{arith}
-use borrow.Author.Rules.{rules}
-use Rattle.laws.specs.StoringLaws.{Stored, none-stored, some_more, so-many-stored, all-stored}
+use Rattle.laws.specs.StoringLaws.{Stored}
 use Rattle.stn.specs.Greys.{row_byte}
-use Rattle.stn.proofs.RowBytes.{byte-of-mono}
 use Rattle.stn.proofs.words.draw_mono.Given as goal
 
 abbrev pub invariant-loop-i : goal.invariant-loop-i

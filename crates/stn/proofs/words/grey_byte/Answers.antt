@@ -1,16 +1,12 @@
 -- `stn::words::grey_byte` meets its contract: a pixel a turn.
-use mathlib.Core.Path.{◌≡◌, refl, ap, ◌∙◌}
-use Prim.Native.Nat.{◌-◌, ◌^◌, ◌<◌, ◌≤◌}
+use mathlib.Core.Path.{refl, ap, ◌∙◌}
+use Prim.Native.Nat.{◌^◌, ◌<◌}
 use native.Mathlib.Omega.{arith}
 use Rattle.pixels.proofs.PixelOrder.{pixel-bits-lt}
-use Rattle.stn.specs.Core.{lit_in}
 use Rattle.stn.specs.Greys.{packed}
 use Rattle.stn.proofs.Packing.{packed-few, one-more-packed}
 use Rattle.stn.proofs.RowBytes.{bit-looked-up}
 use Rattle.stn.proofs.words.grey_byte.Goals as goal
-
-abbrev start : tie.In-loop invariant-loop decreases-loop → tie.Start invariant-loop decreases-loop
-start c = c.before.before.before
 
 pub loop-k-init : goal.loop-k-init
 unfolding packed
@@ -22,7 +18,7 @@ overflow_mul-byte c =
     omega (arith, few)
 
 pub bounds-patterns-phase : goal.bounds-patterns-phase
-bounds-patterns-phase c = omega (arith, (start c).pre.1.size)
+bounds-patterns-phase c = omega (arith, c.requires.1.size)
 
 pub overflow_shr-byte : goal.overflow_shr-byte
 overflow_shr-byte c =
@@ -36,11 +32,10 @@ overflow_add-byte-in-loop-k c =
 
 pub loop-k-preserved : goal.loop-k-preserved
 loop-k-preserved c =
-    let s = start c in
     let now = c.loop-k in (
       omega arith,
       one-more-packed _ now.k _ _ now.invariant.1
-          (bit-looked-up s.args.patterns.now s.pre.1 s.args.x s.args.phase now.k _ s.pre.0
+          (bit-looked-up c.args.patterns.now c.requires.1 c.args.x c.args.phase now.k _ c.requires.0
           c.loop-k-test.true c.pixel_at.ensures),
     )
 

@@ -1,12 +1,8 @@
 -- `stn::words::grey_byte` meets its contract: a pixel a turn.
-use mathlib.Core.Path.{◌≡◌, refl, ap, ◌∙◌}
-use Prim.Native.Nat.{◌-◌, ◌^◌, ◌<◌, ◌≤◌}
-use native.Mathlib.Omega.{arith}
-use Rattle.pixels.proofs.PixelOrder.{pixel-bits-lt}
+use mathlib.Core.Path.{◌≡◌}
+use Prim.Native.Nat.{◌-◌, ◌≤◌}
 use Rattle.stn.specs.Core.{lit_in}
 use Rattle.stn.specs.Greys.{packed}
-use Rattle.stn.proofs.Packing.{packed-few, one-more-packed}
-use Rattle.stn.proofs.RowBytes.{bit-looked-up}
 use Rattle.stn.proofs.words.grey_byte.Given as goal
 
 abbrev pub invariant-loop-k : goal.invariant-loop-k

@@ -1,6 +1,5 @@
 -- `stn::words::pixel_at` meets its contract.
 use mathlib.Core.Path.{refl, ◌∙◌}
-use borrow.Author.Rules.{rules}
 use Rattle.pixels.proofs.PixelOrder.{cut-by-shifts, pixel-past}
 use Rattle.stn.proofs.words.pixel_at.Goals as goal
 

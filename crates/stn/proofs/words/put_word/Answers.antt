@@ -1,9 +1,8 @@
 -- `stn::words::put_word` meets its contract: a byte a turn.
 use mathlib.Core.Path.{refl}
-use Prim.Native.Nat.{◌-◌, ◌^◌, ◌<◌, ◌≤◌}
+use Prim.Native.Nat.{◌^◌, ◌<◌}
 use native.Mathlib.Omega.{arith}
-use Rattle.laws.specs.StoringLaws.{Stored, none-stored, one_more, all-stored}
-use Rattle.pixels.specs.Order.{pixel_bits}
+use Rattle.laws.specs.StoringLaws.{none-stored, one_more, all-stored}
 use Rattle.pixels.proofs.PixelOrder.{pixel-bits-lt}
 use Rattle.stn.proofs.words.put_word.Goals as goal
 

@@ -1,10 +1,7 @@
 -- `stn::words::put_word` meets its contract: a byte a turn.
-use mathlib.Core.Path.{refl}
-use Prim.Native.Nat.{◌-◌, ◌^◌, ◌<◌, ◌≤◌}
-use native.Mathlib.Omega.{arith}
-use Rattle.laws.specs.StoringLaws.{Stored, none-stored, one_more, all-stored}
+use Prim.Native.Nat.{◌-◌, ◌≤◌}
+use Rattle.laws.specs.StoringLaws.{Stored}
 use Rattle.pixels.specs.Order.{pixel_bits}
-use Rattle.pixels.proofs.PixelOrder.{pixel-bits-lt}
 use Rattle.stn.proofs.words.put_word.Given as goal
 
 abbrev pub invariant-loop-k : goal.invariant-loop-k
