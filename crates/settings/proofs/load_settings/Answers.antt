@@ -1,6 +1,5 @@
 -- `settings::load_settings` meets its contract.
 use native.Mathlib.Omega.{arith}
-use borrow.Author.Rules.{rules}
 use borrow.Author.Tests.{lt-ltb}
 use mathlib.Core.Path.{◌≡◌, sym, ◌∙◌}
 use lib.Dec.{lit<}
@@ -18,8 +17,8 @@ returns-then-stored-lt9 c =
 pub returns-then-refusal-ne0 : goal.returns-then-refusal-ne0
 unfolding load_settings
 returns-then-refusal-ne0 c =
-    let judged : let a = c.args in
-    c.check-refusal.result ≡ judge_load a.stored.now a.words.now a.window_start a.video.now = c.check-refusal.ensures ∙ as-checked _ _ _ _ c.if-stored-lt9.false in
+    let judged : c.check-refusal.result ≡ judge_load c.args.stored.now c.args.words.now c.args.window_start c.args.video.now =
+    c.check-refusal.ensures ∙ as-checked _ _ _ _ c.if-stored-lt9.false in
     leaves-as-it-was _ _ _ _ judged c.if-refusal-ne0.true
 
 pub make_stores-requires : goal.make_stores-requires
@@ -29,6 +28,6 @@ make_stores-requires c =
 pub returns : goal.returns
 unfolding load_settings
 returns c =
-    let judged : let a = c.args in
-    c.check-refusal.result ≡ judge_load a.stored.now a.words.now a.window_start a.video.now = c.check-refusal.ensures ∙ as-checked _ _ _ _ c.if-stored-lt9.false in
+    let judged : c.check-refusal.result ≡ judge_load c.args.stored.now c.args.words.now c.args.window_start c.args.video.now =
+    c.check-refusal.ensures ∙ as-checked _ _ _ _ c.if-stored-lt9.false in
     leaves-written _ _ _ _ (sym judged ∙ c.if-refusal-ne0.false) c.make_stores.ensures

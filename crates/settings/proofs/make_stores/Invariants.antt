@@ -1,15 +1,9 @@
 -- `settings::make_stores` meets its contract: one store a turn.
-use mathlib.Core.Path.{◌≡◌, refl}
-use Prim.Native.Nat.{◌-◌, ◌≤◌, ◌<◌}
-use native.Mathlib.Omega.{arith}
-use borrow.Author.Rules.{rules}
-use borrow.Author.Tests.{ltb-true, ltb-false}
-use lib.ListN.{length, get_or, take}
+use mathlib.Core.Path.{◌≡◌}
+use Prim.Native.Nat.{◌-◌, ◌≤◌}
+use lib.ListN.{take}
 use Rattle.registers.specs.Loading.{nine_words}
-use Rattle.registers.specs.declared.Words.{Words}
-use Rattle.settings.specs.Core.{ten_entries}
 use Rattle.settings.specs.Stores.{ten_stores, after_stores}
-use Rattle.settings.proofs.Storing.{within-nine, length-kept, next-made, cut-made, all_made}
 use Rattle.settings.proofs.make_stores.Given as goal
 
 abbrev pub invariant-loop-i : goal.invariant-loop-i

@@ -1,5 +1,4 @@
 -- `settings::ten_words` meets its contract: word by word.
-use borrow.Author.Rules.{rules}
 use Rattle.settings.specs.Stores.{ten_stores}
 use Rattle.settings.proofs.ten_words.Goals as goal
 

@@ -1,6 +1,5 @@
 -- `settings::with_video_off` meets its contract: two shifts clear bit 0.
 use native.Mathlib.Omega.{arith}
-use borrow.Author.Rules.{rules}
 use Rattle.settings.specs.Stores.{with_video_off}
 use Rattle.settings.proofs.with_video_off.Goals as goal
 
