@@ -1,9 +1,9 @@
 -- `lcd::pixel::draw_pixel_in` meets its contract.
+-- where nothing is refused, there is an entry for the colour
 use mathlib.Core.Bool.{Bool, ◌||◌}
 use mathlib.Core.List.{[], ◌∷◌}
 use mathlib.Core.Path.{◌≡◌, sym, ap, ◌∙◌}
 use Prim.Native.Nat.{ℕ, ◌≤◌}
-use borrow.Author.Rules.{rules}
 use borrow.Author.Tests.{ltb-false}
 use lib.ListN.{set}
 use Rattle.laws.specs.AnswerLaws.{leaves-as-it-was, leaves-written}
@@ -15,10 +15,8 @@ use Rattle.memory.specs.Memory.{memory_cases}
 use Rattle.memory.specs.declared.Screen.{Screen}
 use Rattle.drawing.specs.Drawing.{palette_wrong, row_outside, column_outside, colour_tail, drawing_cases, judge_pixel}
 use Rattle.lcd.specs.Pixel.{draw_pixel_in}
-use Rattle.lcd.proofs.pixel.draw_pixel_in.Statement.{statement}
-use Rattle.lcd.proofs.pixel.draw_pixel_in.Tie as tie
+use Rattle.lcd.proofs.pixel.draw_pixel_in.Goals as goal
 
--- where nothing is refused, there is an entry for the colour
 has-entry : (s : Screen) (lent entries room r c : ℕ) → judge_pixel s lent entries (too_short room 1) r c ≡ 0 → 1 ≤ room
 unfolding judge_pixel too_short
 has-entry s lent entries room r c e =
@@ -30,33 +28,17 @@ has-entry s lent entries room r c e =
     outside : Bool
     outside = row_outside s.words r || column_outside s.words c
 
-abbrev start : tie.After-judge-pixel → tie.Start
-start c = c.before.before.before.before
-
-returns : tie.Need-returns
+pub returns-then-refusal-ne0 : goal.returns-then-refusal-ne0
 unfolding draw_pixel_in too_short
-returns c = leaves-as-it-was _ _ _ _ c.before.judge-pixel.ensures c.if1.true
+returns-then-refusal-ne0 c = leaves-as-it-was _ _ _ _ c.judge_pixel-refusal.ensures c.if-refusal-ne0.true
 
-slice-write-out : tie.Need-slice-write-out
+pub bounds-out-0 : goal.bounds-out-0
 unfolding too_short
-slice-write-out c =
-    let p = c.before in
-    has-entry _ _ _ _ _ _ (sym p.before.judge-pixel.ensures ∙ p.if1.false)
+bounds-out-0 c =
+    has-entry _ _ _ _ _ _ (sym c.judge_pixel-refusal.ensures ∙ c.if-refusal-ne0.false)
 
-returns-2 : tie.Need-returns-2
+pub returns : goal.returns
 unfolding draw_pixel_in too_short
-returns-2 c =
-    let p = c.before in
-    leaves-written _ _ _ _ (sym p.before.judge-pixel.ensures ∙ p.if1.false)
-    (ap (λ (v : ℕ). set (start p.before).args.out.now 0 v) c.pixel-colour.ensures)
-
-pub draw-pixel-in-spec : {M : Type 1} → statement M
-draw-pixel-in-spec =
-    tie.close
-    (tie.spec
-    (λ c κs. tt)
-    returns
-    (λ c κs. tt)
-    slice-write-out
-    (λ c. search rules)
-    returns-2)
+returns c =
+    leaves-written _ _ _ _ (sym c.judge_pixel-refusal.ensures ∙ c.if-refusal-ne0.false)
+    (ap (λ (v : ℕ). set c.args.out.now 0 v) c.pixel_colour.ensures)

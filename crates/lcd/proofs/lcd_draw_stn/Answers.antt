@@ -1,0 +1,17 @@
+-- `lcd::lcd_draw_stn` meets its contract.
+-- with nine words
+use mathlib.Core.Path.{sym, ap, ◌∙◌}
+use Rattle.laws.specs.AnswerLaws.{writes-on, leaves-on}
+use Rattle.lcd.specs.Calls.{draw_stn}
+use Rattle.registers.specs.Loading.{loaded}
+use Rattle.lcd.proofs.lcd_draw_stn.Goals as goal
+
+pub returns-in-Nine : goal.returns-in-Nine
+unfolding draw_stn
+returns-in-Nine c =
+    writes-on _ _ _ c.in-Nine.w _ (sym (ap loaded c.in-Nine.is) ∙ c.load.ensures) c.draw_stn.ensures
+
+pub returns-in-Refused : goal.returns-in-Refused
+unfolding draw_stn
+returns-in-Refused c =
+    leaves-on _ _ _ c.in-Refused.n (sym (ap loaded c.in-Refused.is) ∙ c.load.ensures)
