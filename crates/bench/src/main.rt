@@ -13,38 +13,49 @@ use memory::Screen;
 use output::{print_counts, print_refused, print_row};
 use panel::geometry::{height, width};
 use registers::{Loaded, load};
+use std::io;
+use std::io::Read;
 
 // Prints every row. None is refused once the first was accepted: rows differ by their number alone, which stays below the height.
 // A refusal would end the output.
-fn print_rows(s: Screen, video: &[u32], palette: &[u16], row: &mut [u32])
+fn print_rows(
+    rt: &impl Print,
+    s: Screen,
+    video: &[u32],
+    palette: &[u16],
+    row: &mut [u32],
+) -> io::Result<()>
     requires { 2048 ≤ length row.old }
 {
     let wide = width(s.words) as usize;
-    let high = height(s.words);
-    let mut r = 0;
-    while r < high {
+    for r in 0..height(s.words) {
         if draw_row(s, video, palette, r, row) != 0 {
-            return;
+            break;
         }
-        print_row(&row[..wide]);
-        r += 1;
+        print_row(rt, &row[..wide])?;
     }
+    Ok(())
 }
 
 // Draws the first row to see whether the panel is refused.
-fn print_panel(s: Screen, hclk: u32, video: &[u32], palette: &[u16]) {
+fn print_panel(
+    rt: &impl Print,
+    s: Screen,
+    hclk: u32,
+    video: &[u32],
+    palette: &[u16],
+) -> io::Result<()> {
     let mut row = [0u32; 2048];
     let refusal = draw_row(s, video, palette, 0, &mut row);
     if refusal != 0 {
-        print_refused(refusal);
-        return;
+        return print_refused(rt, refusal);
     }
-    print_counts(s.words, hclk);
-    print_rows(s, video, palette, &mut row);
+    print_counts(rt, s.words, hclk)?;
+    print_rows(rt, s, video, palette, &mut row)
 }
 
 // Nine words, HCLK and window start come first (44 bytes), then the palette (512 bytes).
-fn print_video(bytes: &[u8], video: &[u32])
+fn print_video(rt: &impl Print, bytes: &[u8], video: &[u32]) -> io::Result<()>
     requires { 556 ≤ length bytes.now }
 {
     let mut palette = [0u16; 256];
@@ -57,29 +68,29 @@ fn print_video(bytes: &[u8], video: &[u32])
                 words: w,
                 window_start: head[10],
             };
-            print_panel(s, head[9], video, &palette)
+            print_panel(rt, s, head[9], video, &palette)
         }
-        Loaded::Refused(refusal) => print_refused(refusal),
+        Loaded::Refused(refusal) => print_refused(rt, refusal),
     }
 }
 
-// The first n bytes are the input; from byte 556 on it holds the video words.
-fn print_input(bytes: &[u8], n: usize)
-    requires { (n ≤ length bytes.now) × (556 ≤ n) × (n ≤ 33324) }
+// From byte 556 on the input holds the video words.
+fn print_input(rt: &impl Print, bytes: &[u8]) -> io::Result<()>
+    requires head { 556 ≤ length bytes.now }
+    requires tail { length bytes.now ≤ 33324 }
 {
     let mut video = [0u32; 8192];
-    let tail = (n - 556) / 4;
+    let tail = (bytes.len() - 556) / 4;
     words(bytes, 556, tail, &mut video);
-    print_video(bytes, &video[..tail]);
+    print_video(rt, bytes, &video[..tail])
 }
 
-// The buffer holds the longest input and one byte more, so that a longer input is noticed.
-fn main() {
-    let mut bytes = [0u8; 33325];
-    let n = io::read_full(libc::STDIN_FILENO, &mut bytes);
-    if length_refused(n) {
-        print_refused(14);
-        return;
+// Reads the longest input and one byte more, so that a longer input is noticed.
+fn main(rt: HostRuntime) -> io::Result<()> {
+    let mut bytes = Vec::new(rt.alloc());
+    rt.reader().take(33325).read_to_end(&mut bytes)?;
+    if length_refused(bytes.len()) {
+        return print_refused(&rt, 14);
     }
-    print_input(&bytes, n);
+    print_input(&rt, &bytes)
 }

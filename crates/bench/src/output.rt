@@ -3,25 +3,20 @@ ghost use Rattle.std.specs.Prelude.{◌+◌, ◌*◌, ◌<◌, ◌≤◌, ◌≡
 ghost use Rattle.laws.specs.Storing.{stores};
 ghost use Rattle.bench.specs.Output.{digit_char, colour_text, parting, row_text};
 
-use libc::STDOUT_FILENO;
 use panel::timing::{frame_clocks, frame_millihertz, frame_ticks};
 use registers::Words;
+use std::io;
 
-pub(crate) fn print_refused(refusal: u32) {
-    io::write_all(STDOUT_FILENO, b"refused ");
-    io::print_decimal(STDOUT_FILENO, refusal as u64);
-    io::write_all(STDOUT_FILENO, b"\n");
+pub(crate) fn print_refused(rt: &impl Print, refusal: u32) -> io::Result<()> {
+    println!(rt; "refused {refusal}")
 }
 
 // A frame's clocks, its HCLK ticks and its rate in millihertz.
-pub(crate) fn print_counts(w: Words, hclk: u32) {
-    io::write_all(STDOUT_FILENO, b"clocks ");
-    io::print_decimal(STDOUT_FILENO, frame_clocks(w) as u64);
-    io::write_all(STDOUT_FILENO, b" hclk ");
-    io::print_decimal(STDOUT_FILENO, frame_ticks(w));
-    io::write_all(STDOUT_FILENO, b" mhz ");
-    io::print_decimal(STDOUT_FILENO, frame_millihertz(w, hclk));
-    io::write_all(STDOUT_FILENO, b"\n");
+pub(crate) fn print_counts(rt: &impl Print, w: Words, hclk: u32) -> io::Result<()> {
+    let clocks = frame_clocks(w);
+    let ticks = frame_ticks(w);
+    let millihertz = frame_millihertz(w, hclk);
+    println!(rt; "clocks {clocks} hclk {ticks} mhz {millihertz}")
 }
 
 // The character of a hexadecimal digit.
@@ -69,10 +64,10 @@ fn spell_row(row: &[u32], text: &mut [u8])
 }
 
 // The text has room for 2,048 colours of seven bytes each.
-pub(crate) fn print_row(row: &[u32])
+pub(crate) fn print_row(rt: &impl Print, row: &[u32]) -> io::Result<()>
     requires { length row.now ≤ 2048 }
 {
     let mut text = [0u8; 14336];
     spell_row(row, &mut text);
-    io::write_all(STDOUT_FILENO, &text[..7 * row.len()]);
+    rt.write_all(&text[..7 * row.len()])
 }

@@ -12,6 +12,7 @@ use drawing::pixel::{Drawn, draw_pixel};
 use drawing::row::draw_row;
 use memory::Screen;
 use registers::{Loaded, Words, load};
+use std::io;
 
 #[derive(Clone, Copy)]
 pub(crate) enum Shape {
@@ -21,27 +22,33 @@ pub(crate) enum Shape {
     Stretch,
 }
 
-fn drawn_agrees(case: Case, drawn: Drawn) -> bool {
+fn drawn_agrees(rt: &impl Print, case: Case<'_>, drawn: Drawn) -> io::Result<bool> {
     match drawn {
-        Drawn::Colour(colour) => value_agrees(case, colour as u64),
-        Drawn::Refused(n) => answer_agrees(case, n),
+        Drawn::Colour(colour) => value_agrees(rt, case, colour as u64),
+        Drawn::Refused(n) => answer_agrees(rt, case, n),
     }
 }
 
 // One pixel, drawn and through a reader.
-fn pixel_agrees(case: Case, s: Screen, palette: &[u16], video: &[u32]) -> bool {
+fn pixel_agrees(
+    rt: &impl Print,
+    case: Case<'_>,
+    s: Screen,
+    palette: &[u16],
+    video: &[u32],
+) -> io::Result<bool> {
     let given = case.given;
     let place = Place {
         row: low_32(given.first),
         column: low_32(given.second),
     };
     let drawn = draw_pixel(s, video, palette, place.row, place.column);
-    let read = lookup_agrees(case, s, palette, video, place, drawn);
-    drawn_agrees(case, drawn) & read
+    let read = lookup_agrees(rt, case, s, palette, video, place, drawn)?;
+    Ok(drawn_agrees(rt, case, drawn)? & read)
 }
 
 fn draw(
-    case: Case,
+    case: Case<'_>,
     shape: Shape,
     s: Screen,
     palette: &[u16],
@@ -63,7 +70,7 @@ fn draw(
 
 // Lends the first entries of `out`; the line's first number says how many.
 fn draw_lent(
-    case: Case,
+    case: Case<'_>,
     shape: Shape,
     s: Screen,
     palette: &[u16],
@@ -76,7 +83,7 @@ fn draw_lent(
 }
 
 // The first entry that the line gives a value for.
-fn first_entry(case: Case, shape: Shape) -> usize {
+fn first_entry(case: Case<'_>, shape: Shape) -> usize {
     let given = case.given;
     match shape {
         Shape::Stretch => given.second as usize,
@@ -85,31 +92,45 @@ fn first_entry(case: Case, shape: Shape) -> usize {
 }
 
 // Whether the answer and every entry are as due.
-fn outcome_agrees(text: &[u8], case: Case, shape: Shape, answer: u32, out: &[u32]) -> bool {
-    let right = number_agrees(case, answer);
-    entries_agree(text, case, first_entry(case, shape), out) & right
+fn outcome_agrees(
+    rt: &impl Print,
+    text: &[u8],
+    case: Case<'_>,
+    shape: Shape,
+    answer: u32,
+    out: &[u32],
+) -> io::Result<bool> {
+    let right = number_agrees(rt, case, answer)?;
+    Ok(entries_agree(rt, text, case, first_entry(case, shape), out)? & right)
 }
 
 // A row, picture or stretch: what is drawn and, for an accepted row or picture, each of its pixels through a reader.
 fn entries_drawn(
+    rt: &impl Print,
     text: &[u8],
-    case: Case,
+    case: Case<'_>,
     shape: Shape,
     s: Screen,
     palette: &[u16],
     video: &[u32],
-) -> bool {
+) -> io::Result<bool> {
     let mut out = [0u32; 4096];
     prefill(&mut out);
     let answer = draw_lent(case, shape, s, palette, video, &mut out);
-    let right = outcome_agrees(text, case, shape, answer, &out);
+    let right = outcome_agrees(rt, text, case, shape, answer, &out)?;
     if answer != 0 {
-        return right;
+        return Ok(right);
     }
-    drawing_read(case, shape, s, palette, video, &out) & right
+    Ok(drawing_read(rt, case, shape, s, palette, video, &out)? & right)
 }
 
-fn drawn_of_words(text: &[u8], case: Case, shape: Shape, w: Words) -> bool {
+fn drawn_of_words(
+    rt: &impl Print,
+    text: &[u8],
+    case: Case<'_>,
+    shape: Shape,
+    w: Words,
+) -> io::Result<bool> {
     let lent = case.lent;
     let s = Screen {
         words: w,
@@ -120,27 +141,38 @@ fn drawn_of_words(text: &[u8], case: Case, shape: Shape, w: Words) -> bool {
     let mut video = [0u32; 40960];
     let m = lend_video(text, lent, &mut video);
     match shape {
-        Shape::Pixel => pixel_agrees(case, s, &palette[..n], &video[..m]),
-        _ => entries_drawn(text, case, shape, s, &palette[..n], &video[..m]),
+        Shape::Pixel => pixel_agrees(rt, case, s, &palette[..n], &video[..m]),
+        _ => entries_drawn(rt, text, case, shape, s, &palette[..n], &video[..m]),
     }
 }
 
 // With too few words nothing is drawn.
-fn undrawn_agrees(text: &[u8], case: Case, shape: Shape, answer: u32) -> bool {
+fn undrawn_agrees(
+    rt: &impl Print,
+    text: &[u8],
+    case: Case<'_>,
+    shape: Shape,
+    answer: u32,
+) -> io::Result<bool> {
     let mut out = [0u32; 4096];
     prefill(&mut out);
     match shape {
-        Shape::Pixel => answer_agrees(case, answer),
-        _ => outcome_agrees(text, case, shape, answer, &out),
+        Shape::Pixel => answer_agrees(rt, case, answer),
+        _ => outcome_agrees(rt, text, case, shape, answer, &out),
     }
 }
 
 // Makes the call, and answers whether it gave what is due.
-pub(crate) fn drawing_agrees(text: &[u8], case: Case, shape: Shape) -> bool {
+pub(crate) fn drawing_agrees(
+    rt: &impl Print,
+    text: &[u8],
+    case: Case<'_>,
+    shape: Shape,
+) -> io::Result<bool> {
     let mut words = [0u32; 16];
     let n = lend_words(text, case.lent, &mut words);
     match load(&words[..n]) {
-        Loaded::Nine(w) => drawn_of_words(text, case, shape, w),
-        Loaded::Refused(n) => undrawn_agrees(text, case, shape, n),
+        Loaded::Nine(w) => drawn_of_words(rt, text, case, shape, w),
+        Loaded::Refused(n) => undrawn_agrees(rt, text, case, shape, n),
     }
 }

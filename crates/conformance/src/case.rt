@@ -5,8 +5,8 @@ use super::text::{Numbers, Until, count_at, numbers_at, scan};
 // A case is a line: the argument that names its file, its line number, the numbers given and those due (after `=`), where in the text
 // both begin, how many are due, and what is lent.
 #[derive(Clone, Copy)]
-pub(crate) struct Case {
-    pub group: usize,
+pub(crate) struct Case<'a> {
+    pub group: &'a str,
     pub line: u64,
     pub given: Numbers,
     pub due: Numbers,
@@ -17,7 +17,13 @@ pub(crate) struct Case {
 }
 
 // The line at a place of the text as a case.
-pub(crate) fn case_at(text: &[u8], at: usize, group: usize, line: u64, lent: Lent) -> Case {
+pub(crate) fn case_at<'a>(
+    text: &[u8],
+    at: usize,
+    group: &'a str,
+    line: u64,
+    lent: Lent,
+) -> Case<'a> {
     let given_at = scan(text, at, Until::Space);
     let due_at = scan(text, given_at, Until::Equals);
     let given = numbers_at(text, given_at);
@@ -46,7 +52,7 @@ pub(crate) struct Tally {
 pub(crate) fn counted(tally: Tally, right: bool) -> Tally {
     let wrong = !right as u64;
     Tally {
-        cases: std::num::wrapping_add_u64(tally.cases, 1),
-        differ: std::num::wrapping_add_u64(tally.differ, wrong),
+        cases: tally.cases.wrapping_add(1),
+        differ: tally.differ.wrapping_add(wrong),
     }
 }

@@ -1,5 +1,5 @@
 // What the cases of a vector file are lent: each setting holds from its line on.
-ghost use Rattle.io.specs.Counts.{IsPrefixLen};
+ghost use Rattle.std.specs.Prelude.{◌≤◌, length};
 
 use super::listed::count_up;
 use super::text::{Until, halves, key_at, number_at, scan, word_at, words};
@@ -64,20 +64,20 @@ pub(crate) fn set(text: &[u8], at: usize, lent: Lent) -> Lent {
 }
 
 pub(crate) fn lend_words(text: &[u8], lent: Lent, out: &mut [u32]) -> usize
-    ensures { IsPrefixLen result out.new }
+    ensures { result ≤ length out.new }
 {
     words(text, lent.words, out)
 }
 
 pub(crate) fn lend_palette(text: &[u8], lent: Lent, out: &mut [u16]) -> usize
-    ensures { IsPrefixLen result out.new }
+    ensures { result ≤ length out.new }
 {
     halves(text, lent.palette, out)
 }
 
 // The video words: listed one by one, or counted up from a line's count, first word and step.
 pub(crate) fn lend_video(text: &[u8], lent: Lent, out: &mut [u32]) -> usize
-    ensures { IsPrefixLen result out.new }
+    ensures { result ≤ length out.new }
 {
     let at = lent.video;
     if lent.counted {

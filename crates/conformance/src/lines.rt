@@ -5,42 +5,62 @@ use super::frame::{check_agrees, counts_agree, rate_agrees};
 use super::lent::{nothing_lent, set};
 use super::scan::{Scan, at_agrees, bring_state, nothing_kept, paint, picture_agrees, run_call};
 use super::text::{key_at, next_line};
+use std::io;
 
 // The tally after a line; calls that keep no state are made here.
-fn run_plain(text: &[u8], at: usize, case: Case, tally: Tally) -> Tally {
-    match key_at(text, at, b"check counts rate pixel row picture stretch") {
-        0 => counted(tally, check_agrees(text, case)),
-        1 => counted(tally, counts_agree(text, case)),
-        2 => counted(tally, rate_agrees(text, case)),
-        3 => counted(tally, drawing_agrees(text, case, Shape::Pixel)),
-        4 => counted(tally, drawing_agrees(text, case, Shape::Row)),
-        5 => counted(tally, drawing_agrees(text, case, Shape::Picture)),
-        6 => counted(tally, drawing_agrees(text, case, Shape::Stretch)),
-        _ => tally,
-    }
+fn run_plain(
+    rt: &impl Print,
+    text: &[u8],
+    at: usize,
+    case: Case<'_>,
+    tally: Tally,
+) -> io::Result<Tally> {
+    let right = match key_at(text, at, b"check counts rate pixel row picture stretch") {
+        0 => check_agrees(rt, text, case)?,
+        1 => counts_agree(rt, text, case)?,
+        2 => rate_agrees(rt, text, case)?,
+        3 => drawing_agrees(rt, text, case, Shape::Pixel)?,
+        4 => drawing_agrees(rt, text, case, Shape::Row)?,
+        5 => drawing_agrees(rt, text, case, Shape::Picture)?,
+        6 => drawing_agrees(rt, text, case, Shape::Stretch)?,
+        _ => return Ok(tally),
+    };
+    Ok(counted(tally, right))
 }
 
-fn keep_tally(text: &[u8], at: usize, case: Case, kept: Scan) -> Scan {
+fn keep_tally(
+    rt: &impl Print,
+    text: &[u8],
+    at: usize,
+    case: Case<'_>,
+    kept: Scan,
+) -> io::Result<Scan> {
     let mut k = kept;
-    let tally = run_plain(text, at, case, kept.tally);
-    k.tally = tally;
-    k
+    k.tally = run_plain(rt, text, at, case, kept.tally)?;
+    Ok(k)
 }
 
 // What is kept after a line.
-fn run_line(text: &[u8], at: usize, case: Case, kept: Scan, picture: &mut [u32]) -> Scan {
+fn run_line(
+    rt: &impl Print,
+    text: &[u8],
+    at: usize,
+    case: Case<'_>,
+    kept: Scan,
+    picture: &mut [u32],
+) -> io::Result<Scan> {
     match key_at(text, at, b"begin step run view state canvas at shows") {
-        0..=3 => run_call(text, at, case, kept, picture),
-        4 => bring_state(text, case, kept),
-        5 => paint(case, kept, picture),
-        6 => at_agrees(text, case, kept),
-        7 => picture_agrees(text, case, kept, picture),
-        _ => keep_tally(text, at, case, kept),
+        0..=3 => run_call(rt, text, at, case, kept, picture),
+        4 => Ok(bring_state(text, case, kept)),
+        5 => Ok(paint(case, kept, picture)),
+        6 => at_agrees(rt, text, case, kept),
+        7 => picture_agrees(rt, text, case, kept, picture),
+        _ => keep_tally(rt, text, at, case, kept),
     }
 }
 
 // Runs a file's cases, line after line.
-pub(crate) fn run_lines(group: usize, text: &[u8]) -> Tally {
+pub(crate) fn run_lines(rt: &impl Print, group: &str, text: &[u8]) -> io::Result<Tally> {
     let mut kept = nothing_kept();
     let mut lent = nothing_lent(text);
     let mut picture = [0u32; 1024];
@@ -48,10 +68,10 @@ pub(crate) fn run_lines(group: usize, text: &[u8]) -> Tally {
     let mut at = 0;
     while at < text.len() {
         let case = case_at(text, at, group, line, lent);
-        kept = run_line(text, at, case, kept, &mut picture);
+        kept = run_line(rt, text, at, case, kept, &mut picture)?;
         lent = set(text, at, lent);
         at = next_line(text, at);
-        line = std::num::wrapping_add_u64(line, 1);
+        line = line.wrapping_add(1);
     }
-    kept.tally
+    Ok(kept.tally)
 }

@@ -1,14 +1,15 @@
 // The entries of a lent row or picture: what they hold before a call, and what is due after it. Entries that a call does not draw must
 // be as they were; after a refusal, whose line lists none, that is all of them (§9.5).
-ghost use Rattle.io.specs.Counts.{IsPrefixLen};
+ghost use Rattle.std.specs.Prelude.{◌≤◌, length};
 
 use super::case::Case;
 use super::report::{agrees, entry_agrees};
 use super::text::{words, words_from};
+use std::io;
 
 // The first n entries of `out` become first, first + step, first + 2 × step and so on, modulo 2^32.
 pub(crate) fn count_up(first: u32, step: u32, n: usize, out: &mut [u32]) -> usize
-    ensures { IsPrefixLen result out.new }
+    ensures { result ≤ length out.new }
 {
     let mut value = first;
     let mut i = 0;
@@ -17,7 +18,7 @@ pub(crate) fn count_up(first: u32, step: u32, n: usize, out: &mut [u32]) -> usiz
             return i;
         }
         out[i] = value;
-        value = std::num::wrapping_add_u32(value, step);
+        value = value.wrapping_add(step);
         i += 1;
     }
     i
@@ -30,7 +31,7 @@ pub(crate) fn prefill(entries: &mut [u32]) {
 
 // n, or the number of entries where that is less.
 pub(crate) fn up_to(n: u64, entries: &[u32]) -> usize
-    ensures { IsPrefixLen result entries.now }
+    ensures { result ≤ length entries.now }
 {
     if n < entries.len() as u64 {
         return n as usize;
@@ -54,35 +55,51 @@ fn difference(a: &[u32], b: &[u32]) -> usize {
 }
 
 // Whether two slices have the same entries, up to where one of them ends.
-pub(crate) fn same_entries(case: Case, out: &[u32], due: &[u32]) -> bool {
+pub(crate) fn same_entries(
+    rt: &impl Print,
+    case: Case<'_>,
+    out: &[u32],
+    due: &[u32],
+) -> io::Result<bool> {
     let i = difference(out, due);
     if out.len() <= i {
-        return true;
+        return Ok(true);
     }
     if due.len() <= i {
-        return true;
+        return Ok(true);
     }
-    entry_agrees(case, i as u64, out[i], due[i])
+    entry_agrees(rt, case, i as u64, out[i], due[i])
 }
 
-fn put_due(text: &[u8], case: Case, first: usize, due: &mut [u32]) {
+fn put_due(text: &[u8], case: Case<'_>, first: usize, due: &mut [u32]) {
     if first <= due.len() {
         words_from(text, case.due_at, 1, first, due);
     }
 }
 
 // Whether the entries are as due: the line's values from entry `first` on, the others as they were.
-pub(crate) fn entries_agree(text: &[u8], case: Case, first: usize, out: &[u32]) -> bool {
+pub(crate) fn entries_agree(
+    rt: &impl Print,
+    text: &[u8],
+    case: Case<'_>,
+    first: usize,
+    out: &[u32],
+) -> io::Result<bool> {
     let mut due = [0u32; 4096];
     prefill(&mut due);
     put_due(text, case, first, &mut due);
-    same_entries(case, out, &due)
+    same_entries(rt, case, out, &due)
 }
 
 // Whether the line lists these entries, and no more.
-pub(crate) fn list_agrees(text: &[u8], case: Case, got: &[u32]) -> bool {
+pub(crate) fn list_agrees(
+    rt: &impl Print,
+    text: &[u8],
+    case: Case<'_>,
+    got: &[u32],
+) -> io::Result<bool> {
     let mut due = [0u32; 1024];
     let n = words(text, case.due_at, &mut due);
-    let right = agrees(case, b"numbers", got.len() as u64, case.listed);
-    same_entries(case, got, &due[..n]) & right
+    let right = agrees(rt, case, "numbers", got.len() as u64, case.listed)?;
+    Ok(same_entries(rt, case, got, &due[..n])? & right)
 }

@@ -11,6 +11,7 @@ use memory::Screen;
 use panel::geometry::width;
 use reader::read_pixel;
 use registers::Words;
+use std::io;
 
 // A pixel by its row and column.
 #[derive(Clone, Copy)]
@@ -29,20 +30,21 @@ fn number_of(d: Drawn) -> u64 {
 
 // Whether a reader gives the same for a pixel as the plain call.
 pub(crate) fn lookup_agrees(
-    case: Case,
+    rt: &impl Print,
+    case: Case<'_>,
     s: Screen,
     palette: &[u16],
     video: &[u32],
     place: Place,
     plain: Drawn,
-) -> bool {
+) -> io::Result<bool> {
     let read = read_pixel(s, video, palette, place.row, place.column);
-    agrees(case, b"reader", number_of(read), number_of(plain))
+    agrees(rt, case, "reader", number_of(read), number_of(plain))
 }
 
 // The next pixel in reading order.
 fn next_place(place: Place, wide: u32) -> Place {
-    let column = std::num::wrapping_add_u32(place.column, 1);
+    let column = place.column.wrapping_add(1);
     if column < wide {
         return Place {
             row: place.row,
@@ -50,31 +52,32 @@ fn next_place(place: Place, wide: u32) -> Place {
         };
     }
     Place {
-        row: std::num::wrapping_add_u32(place.row, 1),
+        row: place.row.wrapping_add(1),
         column: 0,
     }
 }
 
 // Whether a reader gives each of these entries, drawn in reading order from the first column of `row` on.
 fn entries_read(
-    case: Case,
+    rt: &impl Print,
+    case: Case<'_>,
     s: Screen,
     palette: &[u16],
     video: &[u32],
     row: u32,
     drawn: &[u32],
-) -> bool {
+) -> io::Result<bool> {
     let wide = width(s.words);
     let mut place = Place { row, column: 0 };
     let mut right = true;
     let mut i = 0;
     while i < drawn.len() {
         let plain = Drawn::Colour(drawn[i]);
-        right = lookup_agrees(case, s, palette, video, place, plain) & right;
+        right = lookup_agrees(rt, case, s, palette, video, place, plain)? & right;
         place = next_place(place, wide);
         i += 1;
     }
-    right
+    Ok(right)
 }
 
 // How many entries an accepted call has drawn from entry 0 on; a stretch begins elsewhere and is not read.
@@ -86,7 +89,7 @@ fn drawn_from_the_first(shape: Shape, w: Words) -> u64 {
     }
 }
 
-fn first_row(case: Case, shape: Shape) -> u32 {
+fn first_row(case: Case<'_>, shape: Shape) -> u32 {
     let given = case.given;
     match shape {
         Shape::Row => low_32(given.second),
@@ -96,13 +99,22 @@ fn first_row(case: Case, shape: Shape) -> u32 {
 
 // Whether a reader gives what an accepted row or picture drawing left in `out`.
 pub(crate) fn drawing_read(
-    case: Case,
+    rt: &impl Print,
+    case: Case<'_>,
     shape: Shape,
     s: Screen,
     palette: &[u16],
     video: &[u32],
     out: &[u32],
-) -> bool {
+) -> io::Result<bool> {
     let n = up_to(drawn_from_the_first(shape, s.words), out);
-    entries_read(case, s, palette, video, first_row(case, shape), &out[..n])
+    entries_read(
+        rt,
+        case,
+        s,
+        palette,
+        video,
+        first_row(case, shape),
+        &out[..n],
+    )
 }

@@ -18,32 +18,30 @@ mod text;
 
 use lines::run_lines;
 use report::{open_group, print_group, print_too_long};
+use std::io::Read;
+use std::rt::Files;
+use std::{env, io};
 
-// A file that fills the buffer may be longer, so it is not run.
-fn run_file(group: usize, fd: i32) {
-    let mut text = io::large_buffer();
-    let n = io::read_full(fd, &mut text);
-    if n == 65536 {
-        print_too_long(group);
-        return;
+// A file of more than 65,535 bytes is not run.
+fn run_file<R: Print + Alloc>(rt: &R, group: &str, file: impl Read + Drop) -> io::Result<()> {
+    let mut text = Vec::new(rt.alloc());
+    file.take(65536).read_to_end(&mut text)?;
+    if text.len() == 65536 {
+        return print_too_long(rt, group);
     }
-    print_group(group, run_lines(group, &text[..n]));
+    print_group(rt, group, run_lines(rt, group, &text)?)
 }
 
-fn run_group(group: usize) {
-    let fd = open_group(group);
-    if fd < 0 {
-        return;
+fn run_group(rt: &(impl Files + Print + Eprint + Alloc), group: &str) -> io::Result<()> {
+    match open_group(rt, group)? {
+        Some(file) => run_file(rt, group, file),
+        None => Ok(()),
     }
-    run_file(group, fd);
-    libc::close(fd);
 }
 
-fn main() {
-    let n = os::arg_count();
-    let mut i = 1;
-    while i < n {
-        run_group(i);
-        i += 1;
+fn main(rt: HostRuntime) -> io::Result<()> {
+    for group in env::args(&rt)?.skip(1) {
+        run_group(&rt, group.as_str())?;
     }
+    Ok(())
 }

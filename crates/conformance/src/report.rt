@@ -1,115 +1,121 @@
 // What the program prints: a line for each answer that differs, a line for each group.
 use super::case::{Case, Tally};
-use libc::STDOUT_FILENO;
+use std::rt::Files;
+use std::{fs, io};
 
-fn print_name(group: usize) {
-    let mut name = io::buffer();
-    let n = os::arg(group, &mut name);
-    io::write_all(STDOUT_FILENO, &name[..n]);
-}
-
-fn print_case(case: Case) {
-    print_name(case.group);
-    io::write_all(STDOUT_FILENO, b" line ");
-    io::print_decimal(STDOUT_FILENO, case.line);
-    io::write_all(STDOUT_FILENO, b": ");
+fn print_case(rt: &impl Print, case: Case<'_>) -> io::Result<()> {
+    print!(rt; "{} line {}: ", case.group, case.line)
 }
 
 // Values are hexadecimal, as in the vectors.
-fn print_difference(got: u64, due: u64) {
-    io::write_all(STDOUT_FILENO, b" is ");
-    io::print_hex(STDOUT_FILENO, got, 1);
-    io::write_all(STDOUT_FILENO, b", due ");
-    io::print_hex(STDOUT_FILENO, due, 1);
-    io::write_all(STDOUT_FILENO, b"\n");
+fn print_difference(rt: &impl Print, got: u64, due: u64) -> io::Result<()> {
+    println!(rt; " is {got:x}, due {due:x}")
 }
 
 // Whether a call gave what is due; if not, prints a line that says which case differs, and how.
-pub(crate) fn agrees(case: Case, what: &[u8], got: u64, due: u64) -> bool {
+pub(crate) fn agrees(
+    rt: &impl Print,
+    case: Case<'_>,
+    what: &str,
+    got: u64,
+    due: u64,
+) -> io::Result<bool> {
     if got == due {
-        return true;
+        return Ok(true);
     }
-    print_case(case);
-    io::write_all(STDOUT_FILENO, what);
-    print_difference(got, due);
-    false
+    print_case(rt, case)?;
+    rt.print(what)?;
+    print_difference(rt, got, due)?;
+    Ok(false)
 }
 
 // The same for an entry of the lent row or picture.
-pub(crate) fn entry_agrees(case: Case, entry: u64, got: u32, due: u32) -> bool {
+pub(crate) fn entry_agrees(
+    rt: &impl Print,
+    case: Case<'_>,
+    entry: u64,
+    got: u32,
+    due: u32,
+) -> io::Result<bool> {
     if got == due {
-        return true;
+        return Ok(true);
     }
-    print_case(case);
-    io::write_all(STDOUT_FILENO, b"entry ");
-    io::print_decimal(STDOUT_FILENO, entry);
-    print_difference(got as u64, due as u64);
-    false
+    print_case(rt, case)?;
+    print!(rt; "entry {entry}")?;
+    print_difference(rt, got as u64, due as u64)?;
+    Ok(false)
 }
 
 // Whether the line lists so many numbers, the first of them this number of a refusal or 0.
-pub(crate) fn begins_with(case: Case, numbers: u64, answer: u32) -> bool {
-    let right = agrees(case, b"numbers", numbers, case.listed);
-    number_agrees(case, answer) & right
+pub(crate) fn begins_with(
+    rt: &impl Print,
+    case: Case<'_>,
+    numbers: u64,
+    answer: u32,
+) -> io::Result<bool> {
+    let right = agrees(rt, case, "numbers", numbers, case.listed)?;
+    Ok(number_agrees(rt, case, answer)? & right)
 }
 
 // Whether the line's first number is this number of a refusal, or 0.
-pub(crate) fn number_agrees(case: Case, answer: u32) -> bool {
-    let due = case.due;
-    agrees(case, b"answer", answer as u64, due.first)
+pub(crate) fn number_agrees(rt: &impl Print, case: Case<'_>, answer: u32) -> io::Result<bool> {
+    agrees(rt, case, "answer", answer as u64, case.due.first)
 }
 
 // Whether the line's only number is this number of a refusal, or 0.
-pub(crate) fn answer_agrees(case: Case, answer: u32) -> bool {
-    begins_with(case, 1, answer)
+pub(crate) fn answer_agrees(rt: &impl Print, case: Case<'_>, answer: u32) -> io::Result<bool> {
+    begins_with(rt, case, 1, answer)
 }
 
 // Whether the line expects an accepted call with this value.
-pub(crate) fn value_agrees(case: Case, value: u64) -> bool {
-    let due = case.due;
-    let right = begins_with(case, 2, 0);
-    agrees(case, b"value", value, due.second) & right
+pub(crate) fn value_agrees(rt: &impl Print, case: Case<'_>, value: u64) -> io::Result<bool> {
+    let right = begins_with(rt, case, 2, 0)?;
+    Ok(agrees(rt, case, "value", value, case.due.second)? & right)
 }
 
 // Names the form that differs, where it is not the plain call.
-pub(crate) fn name_form(case: Case, form: &[u8]) {
-    print_case(case);
-    io::write_all(STDOUT_FILENO, b"differs by the ");
-    io::write_all(STDOUT_FILENO, form);
-    io::write_all(STDOUT_FILENO, b"\n");
+pub(crate) fn name_form(rt: &impl Print, case: Case<'_>, form: &str) -> io::Result<()> {
+    print_case(rt, case)?;
+    println!(rt; "differs by the {form}")
 }
 
-fn print_differ(differ: u64) {
+fn print_differ(rt: &impl Print, differ: u64) -> io::Result<()> {
     if differ == 0 {
-        io::write_all(STDOUT_FILENO, b" ok\n");
-        return;
+        return println!(rt; " ok");
     }
-    io::write_all(STDOUT_FILENO, b" cases, ");
-    io::print_decimal(STDOUT_FILENO, differ);
-    io::write_all(STDOUT_FILENO, b" differ\n");
+    println!(rt; " cases, {differ} differ")
 }
 
 // A group's line.
-pub(crate) fn print_group(group: usize, tally: Tally) {
-    print_name(group);
-    io::write_all(STDOUT_FILENO, b" ");
-    io::print_decimal(STDOUT_FILENO, tally.cases);
-    print_differ(tally.differ);
+pub(crate) fn print_group(rt: &impl Print, group: &str, tally: Tally) -> io::Result<()> {
+    print!(rt; "{group} {}", tally.cases)?;
+    print_differ(rt, tally.differ)
 }
 
 // Replaces a group's line where its file is too long.
-pub(crate) fn print_too_long(group: usize) {
-    print_name(group);
-    io::write_all(STDOUT_FILENO, b": more than 65535 bytes\n");
+pub(crate) fn print_too_long(rt: &impl Print, group: &str) -> io::Result<()> {
+    println!(rt; "{group}: more than 65535 bytes")
+}
+
+// The system's words for an error, without its number.
+fn print_unopened<R: Eprint + Alloc>(rt: &R, group: &str, error: io::Error) -> io::Result<()> {
+    let text = error.to_string(rt.alloc())?;
+    match text.as_str().split_once(" (os error ") {
+        Some((words, _)) => eprintln!(rt; "{group}: {words}"),
+        None => eprintln!(rt; "{group}: {text}"),
+    }
 }
 
 // Opens the file that an argument names, or says why it cannot.
-pub(crate) fn open_group(group: usize) -> i32 {
-    let mut name = io::buffer();
-    let n = os::arg(group, &mut name);
-    let fd = os::open_read(&name[..n]);
-    if fd < 0 {
-        os::fail(&name[..n]);
+pub(crate) fn open_group<R: Files + Eprint + Alloc>(
+    rt: &R,
+    group: &str,
+) -> io::Result<Option<R::File>> {
+    match fs::open(rt, group) {
+        Ok(file) => Ok(Some(file)),
+        Err(error) => {
+            print_unopened(rt, group, error)?;
+            Ok(None)
+        }
     }
-    fd
 }

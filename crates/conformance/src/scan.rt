@@ -12,6 +12,7 @@ use scanout::start::{Started, start};
 use scanout::state::{State, Viewport};
 use scanout::step::{Stepped, step};
 use scanout::viewport::{Changed, change_viewport};
+use std::io;
 
 // Kept from line to line: the state of the scan, how many entries of the picture a run is lent, and the tally.
 #[derive(Clone, Copy)]
@@ -51,7 +52,7 @@ fn moves(kept: Scan, right: bool, state: State) -> Scan {
 }
 
 // A line `state ..` brings a state from outside.
-pub(crate) fn bring_state(text: &[u8], case: Case, kept: Scan) -> Scan {
+pub(crate) fn bring_state(text: &[u8], case: Case<'_>, kept: Scan) -> Scan {
     let mut k = kept;
     let state = state_at(text, case.given_at);
     k.state = state;
@@ -59,7 +60,7 @@ pub(crate) fn bring_state(text: &[u8], case: Case, kept: Scan) -> Scan {
 }
 
 // A line `canvas LENGTH VALUE` brings a fresh picture.
-pub(crate) fn paint(case: Case, kept: Scan, picture: &mut [u32]) -> Scan {
+pub(crate) fn paint(case: Case<'_>, kept: Scan, picture: &mut [u32]) -> Scan {
     let mut k = kept;
     let given = case.given;
     count_up(low_32(given.second), 0, given.first as usize, picture);
@@ -67,64 +68,84 @@ pub(crate) fn paint(case: Case, kept: Scan, picture: &mut [u32]) -> Scan {
     k
 }
 
-fn begin_agrees(text: &[u8], case: Case, kept: Scan, video: &[u32]) -> Scan {
+fn begin_agrees(
+    rt: &impl Print,
+    text: &[u8],
+    case: Case<'_>,
+    kept: Scan,
+    video: &[u32],
+) -> io::Result<Scan> {
     let lent = case.lent;
     let mut nine = [0u32; 16];
     let n = lend_words(text, lent, &mut nine);
     match start(&nine[..n], lent.window_start, video) {
-        Started::Ready(s) => moves(kept, answer_agrees(case, 0), s),
-        Started::Refused(n) => stays(kept, answer_agrees(case, n)),
+        Started::Ready(s) => Ok(moves(kept, answer_agrees(rt, case, 0)?, s)),
+        Started::Refused(n) => Ok(stays(kept, answer_agrees(rt, case, n)?)),
     }
 }
 
-fn clocked_agrees(case: Case, answer: Clocked) -> bool {
+fn clocked_agrees(rt: &impl Print, case: Case<'_>, answer: Clocked) -> io::Result<bool> {
     match answer {
-        Clocked::Levels(clock) => clock_agrees(case, clock),
-        Clocked::Refused(n) => answer_agrees(case, n),
+        Clocked::Levels(clock) => clock_agrees(rt, case, clock),
+        Clocked::Refused(n) => answer_agrees(rt, case, n),
     }
 }
 
-fn same_state(case: Case, s: State, due: State) -> bool {
+fn same_state(rt: &impl Print, case: Case<'_>, s: State, due: State) -> io::Result<bool> {
     let numbers = numbers_of(s);
     let expected = numbers_of(due);
-    same_entries(case, &numbers, &expected)
+    same_entries(rt, case, &numbers, &expected)
 }
 
 // Whether the step in place (§12.2) answers what is due and leaves the state that the plain step leaves.
-fn in_place_agrees(case: Case, old: State, palette: &[u16], video: &[u32], plain: State) -> bool {
+fn in_place_agrees(
+    rt: &impl Print,
+    case: Case<'_>,
+    old: State,
+    palette: &[u16],
+    video: &[u32],
+    plain: State,
+) -> io::Result<bool> {
     let placed = step_local(old, video, palette);
-    let answer = placed.answer;
-    let right = clocked_agrees(case, answer);
-    if same_state(case, placed.state, plain) & right {
-        return true;
+    let right = clocked_agrees(rt, case, placed.answer)?;
+    if same_state(rt, case, placed.state, plain)? & right {
+        return Ok(true);
     }
-    name_form(case, b"step in place");
-    false
+    name_form(rt, case, "step in place")?;
+    Ok(false)
 }
 
-fn step_agrees(case: Case, kept: Scan, palette: &[u16], video: &[u32]) -> Scan {
+fn step_agrees(
+    rt: &impl Print,
+    case: Case<'_>,
+    kept: Scan,
+    palette: &[u16],
+    video: &[u32],
+) -> io::Result<Scan> {
     let old = kept.state;
     match step(old, video, palette) {
         Stepped::Done(clock, s) => {
-            let right = clock_agrees(case, clock);
-            moves(
-                kept,
-                in_place_agrees(case, old, palette, video, s) & right,
-                s,
-            )
+            let plain = clock_agrees(rt, case, clock)?;
+            let right = in_place_agrees(rt, case, old, palette, video, s)? & plain;
+            Ok(moves(kept, right, s))
         }
         Stepped::Refused(n) => {
-            let right = answer_agrees(case, n);
-            stays(
-                kept,
-                in_place_agrees(case, old, palette, video, old) & right,
-            )
+            let plain = answer_agrees(rt, case, n)?;
+            let right = in_place_agrees(rt, case, old, palette, video, old)? & plain;
+            Ok(stays(kept, right))
         }
     }
 }
 
 // Lends the first entries of the picture, as many as the canvas has.
-fn run_agrees(case: Case, kept: Scan, palette: &[u16], video: &[u32], picture: &mut [u32]) -> Scan {
+fn run_agrees(
+    rt: &impl Print,
+    case: Case<'_>,
+    kept: Scan,
+    palette: &[u16],
+    video: &[u32],
+    picture: &mut [u32],
+) -> io::Result<Scan> {
     let given = case.given;
     let room = up_to(kept.room, picture);
     match run(
@@ -134,12 +155,12 @@ fn run_agrees(case: Case, kept: Scan, palette: &[u16], video: &[u32], picture: &
         given.first,
         &mut picture[..room],
     ) {
-        Ran::Took(count, s) => moves(kept, value_agrees(case, count), s),
-        Ran::Refused(n) => stays(kept, answer_agrees(case, n)),
+        Ran::Took(count, s) => Ok(moves(kept, value_agrees(rt, case, count)?, s)),
+        Ran::Refused(n) => Ok(stays(kept, answer_agrees(rt, case, n)?)),
     }
 }
 
-fn new_viewport(case: Case) -> Viewport {
+fn new_viewport(case: Case<'_>) -> Viewport {
     let given = case.given;
     Viewport {
         lcdsaddr1: low_32(given.first),
@@ -147,43 +168,55 @@ fn new_viewport(case: Case) -> Viewport {
     }
 }
 
-fn view_agrees(case: Case, kept: Scan, video: &[u32]) -> Scan {
+fn view_agrees(rt: &impl Print, case: Case<'_>, kept: Scan, video: &[u32]) -> io::Result<Scan> {
     match change_viewport(kept.state, video, new_viewport(case)) {
-        Changed::Pending(s) => moves(kept, answer_agrees(case, 0), s),
-        Changed::Refused(n) => stays(kept, answer_agrees(case, n)),
+        Changed::Pending(s) => Ok(moves(kept, answer_agrees(rt, case, 0)?, s)),
+        Changed::Refused(n) => Ok(stays(kept, answer_agrees(rt, case, n)?)),
     }
 }
 
 // What is kept after a line that makes a call of the scan, with what is lent: at most 1,024 video words.
 pub(crate) fn run_call(
+    rt: &impl Print,
     text: &[u8],
     at: usize,
-    case: Case,
+    case: Case<'_>,
     kept: Scan,
     picture: &mut [u32],
-) -> Scan {
+) -> io::Result<Scan> {
     let lent = case.lent;
     let mut palette = [0u16; 260];
     let n = lend_palette(text, lent, &mut palette);
     let mut video = [0u32; 1024];
     let m = lend_video(text, lent, &mut video);
     match key_at(text, at, b"begin step run view") {
-        0 => begin_agrees(text, case, kept, &video[..m]),
-        1 => step_agrees(case, kept, &palette[..n], &video[..m]),
-        2 => run_agrees(case, kept, &palette[..n], &video[..m], picture),
-        3 => view_agrees(case, kept, &video[..m]),
-        _ => kept,
+        0 => begin_agrees(rt, text, case, kept, &video[..m]),
+        1 => step_agrees(rt, case, kept, &palette[..n], &video[..m]),
+        2 => run_agrees(rt, case, kept, &palette[..n], &video[..m], picture),
+        3 => view_agrees(rt, case, kept, &video[..m]),
+        _ => Ok(kept),
     }
 }
 
 // The line lists the state's numbers.
-pub(crate) fn at_agrees(text: &[u8], case: Case, kept: Scan) -> Scan {
+pub(crate) fn at_agrees(
+    rt: &impl Print,
+    text: &[u8],
+    case: Case<'_>,
+    kept: Scan,
+) -> io::Result<Scan> {
     let numbers = numbers_of(kept.state);
-    stays(kept, list_agrees(text, case, &numbers))
+    Ok(stays(kept, list_agrees(rt, text, case, &numbers)?))
 }
 
 // The line lists every entry of the picture that runs are lent.
-pub(crate) fn picture_agrees(text: &[u8], case: Case, kept: Scan, picture: &[u32]) -> Scan {
+pub(crate) fn picture_agrees(
+    rt: &impl Print,
+    text: &[u8],
+    case: Case<'_>,
+    kept: Scan,
+    picture: &[u32],
+) -> io::Result<Scan> {
     let n = up_to(kept.room, picture);
-    stays(kept, list_agrees(text, case, &picture[..n]))
+    Ok(stays(kept, list_agrees(rt, text, case, &picture[..n])?))
 }

@@ -1,7 +1,6 @@
 // The text of a vector file: lines, keys, hexadecimal numbers and where they end. Every function is total: a missing number reads as
 // 0, and a position past the text counts as its end.
 ghost use Rattle.std.specs.Prelude.{◌<◌, ◌≤◌, length};
-ghost use Rattle.io.specs.Counts.{IsPrefixLen};
 
 // What a scan stops at; it always stops at the end of the line.
 #[derive(Clone, Copy)]
@@ -137,7 +136,7 @@ pub(crate) fn numbers_at(text: &[u8], at: usize) -> Numbers {
 // Puts the line's numbers, from number k after `at` on, into the entries of `out` from `from` on, and answers where they end.
 pub(crate) fn words_from(text: &[u8], at: usize, k: u32, from: usize, out: &mut [u32]) -> usize
     requires { from ≤ length out.old }
-    ensures { IsPrefixLen result out.new }
+    ensures { result ≤ length out.new }
 {
     let mut i = place(text, at, k);
     let mut n = from;
@@ -154,14 +153,14 @@ pub(crate) fn words_from(text: &[u8], at: usize, k: u32, from: usize, out: &mut 
 
 // Puts the line's numbers from `at` on into the entries of `out`, and answers how many had room.
 pub(crate) fn words(text: &[u8], at: usize, out: &mut [u32]) -> usize
-    ensures { IsPrefixLen result out.new }
+    ensures { result ≤ length out.new }
 {
     words_from(text, at, 0, 0, out)
 }
 
 // The same for half-words.
 pub(crate) fn halves(text: &[u8], at: usize, out: &mut [u16]) -> usize
-    ensures { IsPrefixLen result out.new }
+    ensures { result ≤ length out.new }
 {
     let mut i = place(text, at, 0);
     let mut n = 0;
@@ -206,11 +205,11 @@ fn index_of(names: &[u8], word: &[u8]) -> u32 {
     let mut at = 0;
     while at < names.len() {
         let end = scan(names, at, Until::Space);
-        if check::same(word, &names[at..end]) {
+        if word == &names[at..end] {
             return k;
         }
         at = end + 1;
-        k = std::num::wrapping_add_u32(k, 1);
+        k = k.wrapping_add(1);
     }
     k
 }
