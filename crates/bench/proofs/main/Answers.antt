@@ -1,0 +1,14 @@
+-- `bench::main` is safe: an input that is not refused has 556 to 33,324 bytes.
+use Rattle.std.proofs.Common.{sym, ◌∙◌, arith}
+use Rattle.bench.proofs.Lengths.{accepted-length}
+use Rattle.bench.proofs.main.Goals as goal
+
+pub print_input-requires-clause-head : goal.print_input-requires-clause-head
+print_input-requires-clause-head c =
+    let bounds = accepted-length _ (sym c.length_refused.ensures ∙ c.if-length_refused.false) in
+    omega (arith, bounds.0)
+
+pub print_input-requires-clause-tail : goal.print_input-requires-clause-tail
+print_input-requires-clause-tail c =
+    let bounds = accepted-length _ (sym c.length_refused.ensures ∙ c.if-length_refused.false) in
+    omega (arith, bounds.1)

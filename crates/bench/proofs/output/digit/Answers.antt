@@ -1,0 +1,12 @@
+-- `bench::output::digit` meets its contract.
+use borrow.Author.Tests.{lt-ltb, le-ltb}
+use Rattle.bench.specs.Output.{digit_char}
+use Rattle.bench.proofs.output.digit.Goals as goal
+
+pub returns-then-d-lt10 : goal.returns-then-d-lt10
+unfolding digit_char
+returns-then-d-lt10 c = rw (lt-ltb c.args.d 10 c.if-d-lt10.true)
+
+pub returns-else-d-lt10 : goal.returns-else-d-lt10
+unfolding digit_char
+returns-else-d-lt10 c = rw (le-ltb c.args.d 10 c.if-d-lt10.false)
