@@ -23,7 +23,7 @@ use std::rt::Files;
 use std::{env, io};
 
 // A file of more than 65,535 bytes is not run.
-fn run_file<R: Print + Alloc>(rt: &R, group: &str, file: impl Read + Drop) -> io::Result<()> {
+fn run_file(rt: &(impl Print + Alloc), group: &str, file: impl Read + Drop) -> io::Result<()> {
     let mut text = Vec::new(rt.alloc());
     file.take(65536).read_to_end(&mut text)?;
     if text.len() == 65536 {

@@ -98,7 +98,7 @@ pub(crate) fn print_too_long(rt: &impl Print, group: &str) -> io::Result<()> {
 }
 
 // The system's words for an error, without its number.
-fn print_unopened<R: Eprint + Alloc>(rt: &R, group: &str, error: io::Error) -> io::Result<()> {
+fn print_unopened(rt: &(impl Eprint + Alloc), group: &str, error: io::Error) -> io::Result<()> {
     let text = error.to_string(rt.alloc())?;
     match text.as_str().split_once(" (os error ") {
         Some((words, _)) => eprintln!(rt; "{group}: {words}"),
