@@ -22,13 +22,12 @@ overflow_mul-n c =
     omega (arith, bits-few _ _ _ _ _ _ c.requires.0 c.args.n (omega arith))
 
 pub draw_words-requires : goal.draw_words-requires
-draw_words-requires c =
-    (
-      c.requires.0.legal,
-      c.requires.0.room c.if-f.false,
-      words-lent _ _ _ _ _ _ c.requires.0,
-      omega (arith, c.requires.1, pixels-of-words _ _ _ _ _ _ c.requires.0),
-    )
+draw_words-requires c = (
+  c.requires.0.legal,
+  c.requires.0.room c.if-f.false,
+  words-lent _ _ _ _ _ _ c.requires.0,
+  omega (arith, c.requires.1, pixels-of-words _ _ _ _ _ _ c.requires.0),
+)
 
 pub returns-then-f : goal.returns-then-f
 returns-then-f c =

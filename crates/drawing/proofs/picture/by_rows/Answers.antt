@@ -51,8 +51,8 @@ pub overflow_mul-bits : goal.overflow_mul-bits
 overflow_mul-bits c =
     let f = c.format_of-f in
     let few : c.width.result * f.result.bits ≤ 2048 * 32 =
-        product_le c.width.result 2048 f.result.bits 32 (omega (arith, c.width.ensures))
-        (bits-le f.result (rw f.ensures (sized-format c.args.s.words))) in
+    product_le c.width.result 2048 f.result.bits 32 (omega (arith, c.width.ensures))
+    (bits-le f.result (rw f.ensures (sized-format c.args.s.words))) in
     omega (arith, few)
 
 pub legal-requires : goal.legal-requires
@@ -62,8 +62,8 @@ pub overflow_add-result : goal.overflow_add-result
 overflow_add-result c =
     let f = c.format_of-f in
     let few : c.width.result * f.result.bits ≤ 2048 * 32 =
-        product_le c.width.result 2048 f.result.bits 32 (omega (arith, c.width.ensures))
-        (bits-le f.result (rw f.ensures (sized-format c.args.s.words))) in
+    product_le c.width.result 2048 f.result.bits 32 (omega (arith, c.width.ensures))
+    (bits-le f.result (rw f.ensures (sized-format c.args.s.words))) in
     omega (arith, c.first_word-last.ensures.upper_bound, few)
 
 pub returns : goal.returns

@@ -46,9 +46,9 @@ pub overflow_mul-tail : goal.overflow_mul-tail
 overflow_mul-tail c =
     let w = c.args.s.words in
     let small : c.args.first + c.args.count ≤ 2097152 =
-        omega (arith, c.requires.1, product_le (width w) 2048 (height w) 1024 (omega arith) (omega arith)) in
+    omega (arith, c.requires.1, product_le (width w) 2048 (height w) 1024 (omega arith) (omega arith)) in
     let few : (c.args.count - c.least-head.result) * c.format_of-f.result.bits ≤ 2097152 * 32 =
-        product_le _ 2097152 _ 32 (omega arith) (bits-le _ (legal _ _ 0 c.format_of-f.ensures c.requires.0.legal).stores.sized) in
+    product_le _ 2097152 _ 32 (omega arith) (bits-le _ (legal _ _ 0 c.format_of-f.ensures c.requires.0.legal).stores.sized) in
     omega arith
 
 pub nonzero_div-tail : goal.nonzero_div-tail
@@ -58,7 +58,7 @@ pub overflow_add-first : goal.overflow_add-first
 overflow_add-first c =
     let w = c.args.s.words in
     let small : c.args.first + c.args.count ≤ 2097152 =
-        omega (arith, c.requires.1, product_le (width w) 2048 (height w) 1024 (omega arith) (omega arith)) in
+    omega (arith, c.requires.1, product_le (width w) 2048 (height w) 1024 (omega arith) (omega arith)) in
     omega arith
 
 pub overflow_sub-rest-2 : goal.overflow_sub-rest-2
@@ -93,7 +93,7 @@ pub overflow_add-first-2 : goal.overflow_add-first-2
 overflow_add-first-2 c =
     let w = c.args.s.words in
     let small : c.args.first + c.args.count ≤ 2097152 =
-        omega (arith, c.requires.1, product_le (width w) 2048 (height w) 1024 (omega arith) (omega arith)) in
+    omega (arith, c.requires.1, product_le (width w) 2048 (height w) 1024 (omega arith) (omega arith)) in
     let tail-le = tail-le _ _ (c.args.count - c.least-head.result) c.format_of-f.ensures c.requires.0.legal in
     omega arith
 

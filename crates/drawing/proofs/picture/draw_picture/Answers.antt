@@ -17,7 +17,7 @@ returns-then-refusal-ne0 c = leaves-as-it-was _ _ _ _ c.judge_picture-refusal.en
 pub draw_rows-requires : goal.draw_rows-requires
 draw_rows-requires c =
     let accepted : judge_picture c.args.s (length c.args.video.now) (length c.args.palette.now) (length c.args.picture.now) ≡ 0 =
-        sym c.judge_picture-refusal.ensures ∙ c.if-refusal-ne0.false in
+    sym c.judge_picture-refusal.ensures ∙ c.if-refusal-ne0.false in
     let room : pixels c.args.s.words ≤ length c.args.picture.now = picture-has-room _ _ _ _ accepted in
     let rows = rows-of-picture _ _ _ _ accepted in (
       rows,
@@ -30,7 +30,7 @@ pub returns : goal.returns
 unfolding draw_picture
 returns c =
     let accepted : judge_picture c.args.s (length c.args.video.now) (length c.args.palette.now) (length c.args.picture.now) ≡ 0 =
-        sym c.judge_picture-refusal.ensures ∙ c.if-refusal-ne0.false in
+    sym c.judge_picture-refusal.ensures ∙ c.if-refusal-ne0.false in
     let a = c.args in
     leaves-written _ _ _ _ accepted
     (c.draw_rows.ensures

@@ -48,16 +48,15 @@ pub draw_columns-requires : goal.draw_columns-requires
 draw_columns-requires c =
     let w = c.args.s.words in
     let t : Turn (width w) (height w) c.args.first c.args.count c.loop-done.done c.loop-done.row c.loop-done.column c.least-n.result =
-        record {
-          fits = c.requires.2;
-          standing = c.loop-done.invariant.0;
-          more = c.loop-done-test.true;
-          takes = rw (← c.width-wide.ensures) c.least-n.ensures;
-        } in
+    record {
+      fits = c.requires.2;
+      standing = c.loop-done.invariant.0;
+      more = c.loop-done-test.true;
+      takes = rw (← c.width-wide.ensures) c.least-n.ensures;
+    } in
     let at = c.loop-done in
     let begins = at.invariant.2 (omega arith) in
-    let whole = turn-whole _ _ _ _ _ c.requires.0 t.takes begins at.invariant.3 in
-    (
+    let whole = turn-whole _ _ _ _ _ c.requires.0 t.takes begins at.invariant.3 in (
       record {
         legal = rw c.format_of-f.ensures c.requires.0.legal;
         room = c.fill_table.ensures.room;
@@ -82,12 +81,12 @@ pub overflow_add-done : goal.overflow_add-done
 overflow_add-done c =
     let w = c.args.s.words in
     let t : Turn (width w) (height w) c.args.first c.args.count c.loop-done.done c.loop-done.row c.loop-done.column c.least-n.result =
-        record {
-          fits = c.requires.2;
-          standing = c.loop-done.invariant.0;
-          more = c.loop-done-test.true;
-          takes = rw (← c.width-wide.ensures) c.least-n.ensures;
-        } in
+    record {
+      fits = c.requires.2;
+      standing = c.loop-done.invariant.0;
+      more = c.loop-done-test.true;
+      takes = rw (← c.width-wide.ensures) c.least-n.ensures;
+    } in
     omega (arith, few _ _ _ _ _ _ _ _ t)
 
 pub overflow_add-row : goal.overflow_add-row
@@ -97,24 +96,24 @@ pub loop-done-smaller : goal.loop-done-smaller
 loop-done-smaller c =
     let w = c.args.s.words in
     let t : Turn (width w) (height w) c.args.first c.args.count c.loop-done.done c.loop-done.row c.loop-done.column c.least-n.result =
-        record {
-          fits = c.requires.2;
-          standing = c.loop-done.invariant.0;
-          more = c.loop-done-test.true;
-          takes = rw (← c.width-wide.ensures) c.least-n.ensures;
-        } in
+    record {
+      fits = c.requires.2;
+      standing = c.loop-done.invariant.0;
+      more = c.loop-done-test.true;
+      takes = rw (← c.width-wide.ensures) c.least-n.ensures;
+    } in
     omega (arith, some _ _ _ _ _ _ _ _ t, few _ _ _ _ _ _ _ _ t)
 
 pub loop-done-preserved : goal.loop-done-preserved
 loop-done-preserved c =
     let w = c.args.s.words in
     let t : Turn (width w) (height w) c.args.first c.args.count c.loop-done.done c.loop-done.row c.loop-done.column c.least-n.result =
-        record {
-          fits = c.requires.2;
-          standing = c.loop-done.invariant.0;
-          more = c.loop-done-test.true;
-          takes = rw (← c.width-wide.ensures) c.least-n.ensures;
-        } in
+    record {
+      fits = c.requires.2;
+      standing = c.loop-done.invariant.0;
+      more = c.loop-done-test.true;
+      takes = rw (← c.width-wide.ensures) c.least-n.ensures;
+    } in
     let at = c.loop-done in
     let begins = at.invariant.2 (omega arith) in
     let whole = turn-whole _ _ _ _ _ c.requires.0 t.takes begins at.invariant.3 in

@@ -16,7 +16,7 @@ pub draw_columns-requires : goal.draw_columns-requires
 draw_columns-requires c =
     let columns : (table : List ℕ) → (c.args.f.tpalen ≡ false → c.args.f.bits ≤ 8 → 2 ^ c.args.f.bits ≤ length table)
     → Columns c.args.f c.args.video.now table c.args.base 0 c.args.n =
-        λ table room. record {
+    λ table room. record {
       legal = c.requires.0;
       room = room;
       begins = dvd-zero _;
@@ -26,8 +26,7 @@ draw_columns-requires c =
             inside = omega (arith, c.requires.1.inside, zero-div (per_word c.args.f));
           };
       short = omega (arith, c.requires.2);
-    } in
-    (
+    } in (
       columns _ c.fill_table.ensures.room,
       omega (arith, c.requires.3),
     )
@@ -36,7 +35,7 @@ pub draw_columns-requires-else-looked_up : goal.draw_columns-requires-else-looke
 draw_columns-requires-else-looked_up c =
     let columns : (table : List ℕ) → (c.args.f.tpalen ≡ false → c.args.f.bits ≤ 8 → 2 ^ c.args.f.bits ≤ length table)
     → Columns c.args.f c.args.video.now table c.args.base 0 c.args.n =
-        λ table room. record {
+    λ table room. record {
       legal = c.requires.0;
       room = room;
       begins = dvd-zero _;
@@ -48,8 +47,7 @@ draw_columns-requires-else-looked_up c =
       short = omega (arith, c.requires.2);
     } in
     let plain : (table : _) → Expanded c.args.f c.args.palette.now table =
-        λ table. no_table c.args.f _ table (sym c.looked_up.ensures ∙ c.if-looked_up.false) in
-    (
+    λ table. no_table c.args.f _ table (sym c.looked_up.ensures ∙ c.if-looked_up.false) in (
       columns (0 ∷ []) (plain (0 ∷ [])).room,
       omega (arith, c.requires.3),
     )
@@ -66,7 +64,7 @@ returns-then-looked_up c =
 pub returns-else-looked_up : goal.returns-else-looked_up
 returns-else-looked_up c =
     let plain : (table : _) → Expanded c.args.f c.args.palette.now table =
-        λ table. no_table c.args.f _ table (sym c.looked_up.ensures ∙ c.if-looked_up.false) in
+    λ table. no_table c.args.f _ table (sym c.looked_up.ensures ∙ c.if-looked_up.false) in
     let a = c.args in
     c.draw_columns-else-looked_up.ensures
     ∙ stores_same _ _ 0 a.n a.out.now

@@ -17,9 +17,9 @@ returns-then-refusal-ne0 c = leaves-as-it-was _ _ _ _ c.judge_row-refusal.ensure
 pub draw_from-requires : goal.draw_from-requires
 draw_from-requires c =
     let accepted : judge_row c.args.s (length c.args.video.now) (length c.args.palette.now) c.args.row (length c.args.out.now) ≡ 0 =
-        sym c.judge_row-refusal.ensures ∙ c.if-refusal-ne0.false in
+    sym c.judge_row-refusal.ensures ∙ c.if-refusal-ne0.false in
     let room : width c.args.s.words ≤ length c.args.out.now =
-        row-has-room _ _ _ _ _ accepted in
+    row-has-room _ _ _ _ _ accepted in
     let rows = rows-of-row _ _ _ _ _ accepted in
     rw (c.format_of-f.ensures, c.first_word.ensures.value, c.width.ensures) (
       rows.legal,
@@ -32,7 +32,7 @@ pub returns : goal.returns
 unfolding draw_row
 returns c =
     let accepted : judge_row c.args.s (length c.args.video.now) (length c.args.palette.now) c.args.row (length c.args.out.now) ≡ 0 =
-        sym c.judge_row-refusal.ensures ∙ c.if-refusal-ne0.false in
+    sym c.judge_row-refusal.ensures ∙ c.if-refusal-ne0.false in
     let a = c.args in
     leaves-written _ _ _ _ accepted
     (row-drawn a.s _ a.row _ _ c.format_of-f.ensures c.first_word.ensures.value _ _ _ c.width.ensures

@@ -49,11 +49,10 @@ module _ (f : Format) (palette table : List ℕ) (n m : ℕ) (many : f.tpalen �
       }
 
 pub expand_palette-requires : goal.expand_palette-requires
-expand_palette-requires c =
-    (
-      omega (arith, c.least-n.ensures),
-      omega (arith, c.least-n.ensures, c.indices.ensures.1, ap length c.requires, length-replicate {A = ℕ} 256 0),
-    )
+expand_palette-requires c = (
+  omega (arith, c.least-n.ensures),
+  omega (arith, c.least-n.ensures, c.indices.ensures.1, ap length c.requires, length-replicate {A = ℕ} 256 0),
+)
 
 pub returns : goal.returns
 returns c =

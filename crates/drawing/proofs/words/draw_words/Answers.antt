@@ -20,11 +20,11 @@ look_up_words-requires c =
     → Fits s c.args.n c.args.at c.args.out.now
     × (2 ^ s ≤ length c.args.table.now)
     × (c.args.n ≤ length c.args.video.now - c.args.from) =
-        λ s is pos fill few. (
-  fits-size c.args.f s c.args.n c.args.at c.args.out.now is pos fill c.requires.3,
-  table-room c.args.f c.args.table.now s is few c.requires.1,
-  c.requires.2,
-) in
+    λ s is pos fill few. (
+      fits-size c.args.f s c.args.n c.args.at c.args.out.now is pos fill c.requires.3,
+      table-room c.args.f c.args.table.now s is few c.requires.1,
+      c.requires.2,
+    ) in
     asks 1 c.in-1.is (lit< tt) refl (lit≤ tt)
 
 pub look_up_words-requires-in-2 : goal.look_up_words-requires-in-2
@@ -33,11 +33,11 @@ look_up_words-requires-in-2 c =
     → Fits s c.args.n c.args.at c.args.out.now
     × (2 ^ s ≤ length c.args.table.now)
     × (c.args.n ≤ length c.args.video.now - c.args.from) =
-        λ s is pos fill few. (
-  fits-size c.args.f s c.args.n c.args.at c.args.out.now is pos fill c.requires.3,
-  table-room c.args.f c.args.table.now s is few c.requires.1,
-  c.requires.2,
-) in
+    λ s is pos fill few. (
+      fits-size c.args.f s c.args.n c.args.at c.args.out.now is pos fill c.requires.3,
+      table-room c.args.f c.args.table.now s is few c.requires.1,
+      c.requires.2,
+    ) in
     asks 2 c.in-2.is (lit< tt) refl (lit≤ tt)
 
 pub look_up_words-requires-in-4 : goal.look_up_words-requires-in-4
@@ -46,11 +46,11 @@ look_up_words-requires-in-4 c =
     → Fits s c.args.n c.args.at c.args.out.now
     × (2 ^ s ≤ length c.args.table.now)
     × (c.args.n ≤ length c.args.video.now - c.args.from) =
-        λ s is pos fill few. (
-  fits-size c.args.f s c.args.n c.args.at c.args.out.now is pos fill c.requires.3,
-  table-room c.args.f c.args.table.now s is few c.requires.1,
-  c.requires.2,
-) in
+    λ s is pos fill few. (
+      fits-size c.args.f s c.args.n c.args.at c.args.out.now is pos fill c.requires.3,
+      table-room c.args.f c.args.table.now s is few c.requires.1,
+      c.requires.2,
+    ) in
     asks 4 c.in-4.is (lit< tt) refl (lit≤ tt)
 
 pub look_up_words-requires-in-8 : goal.look_up_words-requires-in-8
@@ -59,25 +59,23 @@ look_up_words-requires-in-8 c =
     → Fits s c.args.n c.args.at c.args.out.now
     × (2 ^ s ≤ length c.args.table.now)
     × (c.args.n ≤ length c.args.video.now - c.args.from) =
-        λ s is pos fill few. (
-  fits-size c.args.f s c.args.n c.args.at c.args.out.now is pos fill c.requires.3,
-  table-room c.args.f c.args.table.now s is few c.requires.1,
-  c.requires.2,
-) in
+    λ s is pos fill few. (
+      fits-size c.args.f s c.args.n c.args.at c.args.out.now is pos fill c.requires.3,
+      table-room c.args.f c.args.table.now s is few c.requires.1,
+      c.requires.2,
+    ) in
     asks 8 c.in-8.is (lit< tt) refl (lit≤ tt)
 
 pub expand_words-requires : goal.expand_words-requires
-expand_words-requires c =
-    (
-      fits-size c.args.f 16 c.args.n c.args.at c.args.out.now c.in-16.is (lit< tt) refl c.requires.3,
-      c.requires.2,
-    )
+expand_words-requires c = (
+  fits-size c.args.f 16 c.args.n c.args.at c.args.out.now c.in-16.is (lit< tt) refl c.requires.3,
+  c.requires.2,
+)
 
 pub cut_words-requires : goal.cut_words-requires
 cut_words-requires c =
     let is_last : c.args.f.bits ≡ 32 =
-        last-size c.args.f c.requires.0.stores (λ e. omega arith) (λ e. omega arith) (λ e. omega arith) (λ e. omega arith) (λ e. omega arith) in
-    (
+    last-size c.args.f c.requires.0.stores (λ e. omega arith) (λ e. omega arith) (λ e. omega arith) (λ e. omega arith) (λ e. omega arith) in (
       fits-size c.args.f 32 c.args.n c.args.at c.args.out.now is_last (lit< tt) refl c.requires.3,
       c.requires.2,
     )
@@ -94,7 +92,7 @@ returns-in-1 c =
     shown c.args.f (λ v. get_or c.args.table.now v 0)
     (stored_pixel c.args.f.bits c.args.f.bswp c.args.f.hwswp c.args.video.now c.args.from j))
     c.args.at (c.args.n * (32 / c.args.f.bits)) c.args.out.now =
-        λ s is few left e. looked-up c.args.f c.requires.0 c.args.table.now c.args.video.now c.args.from s is
+    λ s is few left e. looked-up c.args.f c.requires.0 c.args.table.now c.args.video.now c.args.from s is
     c.args.at c.args.n c.args.out.now left few e in
     leaves 1 c.in-1.is (lit≤ tt) _ c.look_up_words.ensures
 
@@ -110,7 +108,7 @@ returns-in-2 c =
     shown c.args.f (λ v. get_or c.args.table.now v 0)
     (stored_pixel c.args.f.bits c.args.f.bswp c.args.f.hwswp c.args.video.now c.args.from j))
     c.args.at (c.args.n * (32 / c.args.f.bits)) c.args.out.now =
-        λ s is few left e. looked-up c.args.f c.requires.0 c.args.table.now c.args.video.now c.args.from s is
+    λ s is few left e. looked-up c.args.f c.requires.0 c.args.table.now c.args.video.now c.args.from s is
     c.args.at c.args.n c.args.out.now left few e in
     leaves 2 c.in-2.is (lit≤ tt) _ c.look_up_words-in-2.ensures
 
@@ -126,7 +124,7 @@ returns-in-4 c =
     shown c.args.f (λ v. get_or c.args.table.now v 0)
     (stored_pixel c.args.f.bits c.args.f.bswp c.args.f.hwswp c.args.video.now c.args.from j))
     c.args.at (c.args.n * (32 / c.args.f.bits)) c.args.out.now =
-        λ s is few left e. looked-up c.args.f c.requires.0 c.args.table.now c.args.video.now c.args.from s is
+    λ s is few left e. looked-up c.args.f c.requires.0 c.args.table.now c.args.video.now c.args.from s is
     c.args.at c.args.n c.args.out.now left few e in
     leaves 4 c.in-4.is (lit≤ tt) _ c.look_up_words-in-4.ensures
 
@@ -142,7 +140,7 @@ returns-in-8 c =
     shown c.args.f (λ v. get_or c.args.table.now v 0)
     (stored_pixel c.args.f.bits c.args.f.bswp c.args.f.hwswp c.args.video.now c.args.from j))
     c.args.at (c.args.n * (32 / c.args.f.bits)) c.args.out.now =
-        λ s is few left e. looked-up c.args.f c.requires.0 c.args.table.now c.args.video.now c.args.from s is
+    λ s is few left e. looked-up c.args.f c.requires.0 c.args.table.now c.args.video.now c.args.from s is
     c.args.at c.args.n c.args.out.now left few e in
     leaves 8 c.in-8.is (lit≤ tt) _ c.look_up_words-in-8.ensures
 
@@ -154,6 +152,6 @@ returns-in-16 c =
 pub returns-in_default : goal.returns-in_default
 returns-in_default c =
     let is_last : c.args.f.bits ≡ 32 =
-        last-size c.args.f c.requires.0.stores (λ e. omega arith) (λ e. omega arith) (λ e. omega arith) (λ e. omega arith) (λ e. omega arith) in
+    last-size c.args.f c.requires.0.stores (λ e. omega arith) (λ e. omega arith) (λ e. omega arith) (λ e. omega arith) (λ e. omega arith) in
     words-cut c.args.f c.requires.0 c.args.table.now c.args.video.now c.args.from 32
     is_last c.args.at c.args.n c.args.out.now _ refl c.cut_words.ensures

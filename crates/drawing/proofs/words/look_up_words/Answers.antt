@@ -20,7 +20,7 @@ pub overflow_mul-i : goal.overflow_mul-i
 overflow_mul-i c =
     let room : c.args.at + (c.loop-i.i * (32 / c.args.s) + 32 / c.args.s)
     ≤ length c.loop-i.out =
-        let q = 32 / c.args.s in
+    let q = 32 / c.args.s in
     let i = c.loop-i.i in
     omega (
       arith,
@@ -35,7 +35,7 @@ pub overflow_add-at : goal.overflow_add-at
 overflow_add-at c =
     let room : c.args.at + (c.loop-i.i * (32 / c.args.s) + 32 / c.args.s)
     ≤ length c.loop-i.out =
-        let q = 32 / c.args.s in
+    let q = 32 / c.args.s in
     let i = c.loop-i.i in
     omega (
       arith,
@@ -50,7 +50,7 @@ pub look_up_word-requires : goal.look_up_word-requires
 look_up_word-requires c =
     let room : c.args.at + (c.loop-i.i * (32 / c.args.s) + 32 / c.args.s)
     ≤ length c.loop-i.out =
-        let q = 32 / c.args.s in
+    let q = 32 / c.args.s in
     let i = c.loop-i.i in
     omega (
       arith,

@@ -12,7 +12,7 @@ unfolding judge_change
 returns c =
     let of-views : c.lower-to_8.result
     ≡ lowest (state_cases c.args.s c.args.lent ++ viewport_cases c.args.s c.args.v c.args.lent) =
-        let a = c.args in
+    let a = c.args in
     c.lower-to_8.ensures
     ∙ ap₂ lower c.judge_state.ensures c.judge_viewport.ensures
     ∙ sym (lowest-joined (state_cases a.s a.lent) (viewport_cases a.s a.v a.lent)) in

@@ -21,7 +21,7 @@ pub returns-then-refusal-ne0 : goal.returns-then-refusal-ne0
 unfolding run judge_run too_short
 returns-then-refusal-ne0 c =
     let judged-is : c.judge_scan-refusal.result ≡ judge_run c.args.s (lending c.args.video.now c.args.palette.now) c.args.picture.now =
-        rw c.pixels_of.ensures.value at c.judge_scan-refusal.ensures in
+    rw c.pixels_of.ensures.value at c.judge_scan-refusal.ensures in
     ap₂ running (gives-refusal _ _ _ judged-is c.if-refusal-ne0.true)
     (ap (λ (o : Outcome). o.left) (leaves-as-it-was _ _ _ _ judged-is c.if-refusal-ne0.true))
 
@@ -29,21 +29,21 @@ pub count_of-count-requires : goal.count_of-count-requires
 unfolding judge_run too_short
 count_of-count-requires c =
     let judged-is : c.judge_scan-refusal.result ≡ judge_run c.args.s (lending c.args.video.now c.args.palette.now) c.args.picture.now =
-        rw c.pixels_of.ensures.value at c.judge_scan-refusal.ensures in
+    rw c.pixels_of.ensures.value at c.judge_scan-refusal.ensures in
     let lets : judge_run c.args.s (lending c.args.video.now c.args.palette.now) c.args.picture.now ≡ 0 =
-        sym judged-is ∙ c.if-refusal-ne0.false in
+    sym judged-is ∙ c.if-refusal-ne0.false in
     let passes : Passed c.args.s (length c.args.video.now) (length c.args.palette.now)
     (too_short (length c.args.picture.now) (pixels c.args.s.screen.words)) =
-        passed _ _ _ _ lets in
+    passed _ _ _ _ lets in
     omega (arith, passes.inside)
 
 pub returns-then-count-eq0 : goal.returns-then-count-eq0
 unfolding run after drawn judge_run too_short
 returns-then-count-eq0 c =
     let judged-is : c.judge_scan-refusal.result ≡ judge_run c.args.s (lending c.args.video.now c.args.palette.now) c.args.picture.now =
-        rw c.pixels_of.ensures.value at c.judge_scan-refusal.ensures in
+    rw c.pixels_of.ensures.value at c.judge_scan-refusal.ensures in
     let lets : judge_run c.args.s (lending c.args.video.now c.args.palette.now) c.args.picture.now ≡ 0 =
-        sym judged-is ∙ c.if-refusal-ne0.false in
+    sym judged-is ∙ c.if-refusal-ne0.false in
     let a = c.args in
     let none : ◌≡◌ {A = ℕ} 0 (count_of a.s a.clocks) = sym c.if-count-eq0.true ∙ c.count_of-count.ensures in
     ap₂ running
@@ -57,44 +57,44 @@ pub draw_clocks-requires : goal.draw_clocks-requires
 unfolding judge_run too_short count_of
 draw_clocks-requires c =
     let judged-is : c.judge_scan-refusal.result ≡ judge_run c.args.s (lending c.args.video.now c.args.palette.now) c.args.picture.now =
-        rw c.pixels_of.ensures.value at c.judge_scan-refusal.ensures in
+    rw c.pixels_of.ensures.value at c.judge_scan-refusal.ensures in
     let lets : judge_run c.args.s (lending c.args.video.now c.args.palette.now) c.args.picture.now ≡ 0 =
-        sym judged-is ∙ c.if-refusal-ne0.false in
+    sym judged-is ∙ c.if-refusal-ne0.false in
     let passes : Passed c.args.s (length c.args.video.now) (length c.args.palette.now)
     (too_short (length c.args.picture.now) (pixels c.args.s.screen.words)) =
-        passed _ _ _ _ lets in
+    passed _ _ _ _ lets in
     let enough : pixels c.args.s.screen.words ≤ length c.args.picture.now =
-        ltb-false _ _ (short-passes _ _ _ _ passes) in
+    ltb-false _ _ (short-passes _ _ _ _ passes) in
     let fits : c.args.s.position + c.count_of-count.result ≤ frame_of c.args.s =
-        omega (arith, passes.inside, c.count_of-count.ensures) in
+    omega (arith, passes.inside, c.count_of-count.ensures) in
     (c.shown_screen-shown.ensures, fits, enough)
 
 pub moved-requires : goal.moved-requires
 unfolding judge_run too_short count_of
 moved-requires c =
     let judged-is : c.judge_scan-refusal.result ≡ judge_run c.args.s (lending c.args.video.now c.args.palette.now) c.args.picture.now =
-        rw c.pixels_of.ensures.value at c.judge_scan-refusal.ensures in
+    rw c.pixels_of.ensures.value at c.judge_scan-refusal.ensures in
     let lets : judge_run c.args.s (lending c.args.video.now c.args.palette.now) c.args.picture.now ≡ 0 =
-        sym judged-is ∙ c.if-refusal-ne0.false in
+    sym judged-is ∙ c.if-refusal-ne0.false in
     let passes : Passed c.args.s (length c.args.video.now) (length c.args.palette.now)
     (too_short (length c.args.picture.now) (pixels c.args.s.screen.words)) =
-        passed _ _ _ _ lets in
+    passed _ _ _ _ lets in
     let fits : c.args.s.position + c.count_of-count.result ≤ frame_of c.args.s =
-        omega (arith, passes.inside, c.count_of-count.ensures) in
+    omega (arith, passes.inside, c.count_of-count.ensures) in
     (c.shown_screen-shown.ensures, fits)
 
 pub returns : goal.returns
 unfolding run judge_run too_short count_of
 returns c =
     let judged-is : c.judge_scan-refusal.result ≡ judge_run c.args.s (lending c.args.video.now c.args.palette.now) c.args.picture.now =
-        rw c.pixels_of.ensures.value at c.judge_scan-refusal.ensures in
+    rw c.pixels_of.ensures.value at c.judge_scan-refusal.ensures in
     let lets : judge_run c.args.s (lending c.args.video.now c.args.palette.now) c.args.picture.now ≡ 0 =
-        sym judged-is ∙ c.if-refusal-ne0.false in
+    sym judged-is ∙ c.if-refusal-ne0.false in
     let passes : Passed c.args.s (length c.args.video.now) (length c.args.palette.now)
     (too_short (length c.args.picture.now) (pixels c.args.s.screen.words)) =
-        passed _ _ _ _ lets in
+    passed _ _ _ _ lets in
     let fits : c.args.s.position + c.count_of-count.result ≤ frame_of c.args.s =
-        omega (arith, passes.inside, c.count_of-count.ensures) in
+    omega (arith, passes.inside, c.count_of-count.ensures) in
     let a = c.args in
     let counted = c.count_of-count.ensures in
     ap₂ running

@@ -31,10 +31,10 @@ pub returns : goal.returns
 unfolding step judge_step advance clock_at next_colour spot_at
 returns c =
     let parts_are : c.parts_at-parts.result ≡ parts_at (timing (shown_screen c.args.s).words) c.args.s.position =
-        c.parts_at-parts.ensures
+    c.parts_at-parts.ensures
     ∙ ap (λ (x : Screen). parts_at (timing x.words) c.args.s.position) c.shown_screen-shown.ensures in
     let colour : c.spot_colour-colour.result ≡ next_colour c.args.s (lending c.args.video.now c.args.palette.now) =
-        c.spot_colour-colour.ensures
+    c.spot_colour-colour.ensures
     ∙ ap₂ (λ (x : Screen) (k : Spot). spot_colour x (lending c.args.video.now c.args.palette.now) k) c.shown_screen-shown.ensures
     (c.spot_of.ensures ∙ ap (λ (p : Parts). spot_of p.line p.clock) parts_are)
     ∙ ap (λ (t : Timing). spot_colour (shown_screen c.args.s) (lending c.args.video.now c.args.palette.now) (spot_at t c.args.s.position)) (shown-timing c.args.s) in
