@@ -1,12 +1,13 @@
-# Builds the archive of the C interface from the crates, and the C programs of host/ over it. Only what changed is built again.
-# `make` builds all; `.ci/run` runs all tests.
+# Builds the archive of the C interface and the two Rattle programs from the crates, and the C programs of host/ over the archive. Only what
+# changed is built again. `make` builds all C programs; `.ci/run` runs all tests.
 CC = gcc
 CFLAGS = -std=c11 -O2 -Wall -Wextra -Werror
 SANITIZE = -g -fsanitize=address,undefined -fno-sanitize-recover=all
 
 archive = target/staticlib/liblcd.a
-lcd_crates := lcd $(shell sed -n 's/^lcd://p' crates.txt)
-lcd_sources := crates.txt $(shell find $(lcd_crates:%=crates/%) -name '*.rt' -o -name '*.antt')
+# all that `rt` reads for a crate: its files and those of the crates that crates.txt names after it
+read_by = crates.txt $(shell find $(wildcard $(foreach part,src specs proofs,$(patsubst %,crates/%/$(part),$1 $(shell \
+    sed -n 's/^$1\( [^:]*\)*://p' crates.txt)))) -name '*.rt' -o -name '*.antt')
 shot := $(patsubst host/%.c,target/host/%.o,$(wildcard host/shot/*.c) host/lcd_refusals.c)
 load_sources := $(wildcard host/load/*.c) $(addprefix host/shot/,asking.c dump.c fields.c files.c numbers.c options.c outputs.c) \
     host/lcd_refusals.c
@@ -18,11 +19,22 @@ programs = $(addprefix target/host/,lcdshot lcdload example benchmark differenti
 all: $(programs)
 
 # `rt` first proves the crates that it has not proved yet; its many lines are shown only if it fails
-$(archive): $(lcd_sources)
-	@mkdir -p target
-	@command -v rt > /dev/null || { echo "the Rattle kit (rt) is missing; it proves and builds $@" >&2; exit 2; }
-	@echo "proving and building $@ (some minutes where nothing is proved yet)" >&2
-	@rt staticlib lcd > target/staticlib.log 2>&1 || { cat target/staticlib.log >&2; exit 1; }
+proved = @mkdir -p target/staticlib; \
+    command -v rt > /dev/null || { echo "the Rattle kit (rt) is missing; it proves and builds $@" >&2; exit 2; }; \
+    echo "proving and building $@ (some minutes where nothing is proved yet)" >&2; \
+    (cd crates/$1 && rt $2 < /dev/null) > target/$1.log 2>&1 || { cat target/$1.log >&2; exit 1; }
+
+$(archive): $(call read_by,lcd)
+	$(call proved,lcd,lib)
+	@cp crates/lcd/out/liblcd.a $@
+
+# `rt run` builds a program and runs it once, on nothing; `rt ci` leaves its programs at the same place
+crates/bench/out/bench: $(call read_by,bench)
+	$(call proved,bench,run)
+	@touch $@
+
+crates/conformance/out/conformance: $(call read_by,conformance)
+	$(call proved,conformance,run)
 	@touch $@
 
 target/host/%.o: host/%.c

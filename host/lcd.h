@@ -1,5 +1,5 @@
 /* The LCD controller of the S3C2410 and S3C2440 for C and C++ programs: what the nine control words, the palette and the video
- * memory show. `rt staticlib lcd` makes the archive with these calls: target/staticlib/liblcd.a (x86-64 Linux).
+ * memory show. `make target/staticlib/liblcd.a` makes the archive with these calls (x86-64 Linux).
  * Sections such as §10.1 are of docs/REFERENCE.md, which has the rules; §10 is about this interface.
  *
  * words         the nine control words in this order: LCDCON1 to LCDCON5, LCDSADDR1 to LCDSADDR3, TPAL; further entries are ignored

@@ -1,7 +1,8 @@
 # The script that builds the tool and runs it, in a copy of the tree.
 
 mkdir tree tree/host
-cp -r "$top/Makefile" "$top/crates.txt" "$top/crates" tree
+cp "$top/Makefile" "$top/crates.txt" tree
+tar -C "$top" --exclude='crates/*/out' -cf - crates | tar -C tree -xf -
 cp -r "$top/host/lcdshot" "$top/host/tool" "$top/host/setup" "$top/host/lcd.h" "$top/host/lcd_refusals.c" "$top/host/shot" tree/host
 script=$PWD/tree/host/lcdshot
 
