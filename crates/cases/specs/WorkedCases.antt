@@ -18,7 +18,6 @@ use Rattle.panel.specs.Refusals.{judge, judge_either, judge_timed, accept, video
 use Rattle.panel.specs.Refusals.{not_tft, neither_panel, no_such_mode, swaps_illegal, row_size_wrong, end_differs, past_bank}
 use Rattle.panel.specs.Timing.{line_clocks, frame_lines, frame_clocks}
 use Rattle.panel.specs.declared.frame.Counts.{Counts}
-use Rattle.panel.proofs.Examples as Panel
 use Rattle.pixels.specs.Colours.{expanded, expanded565, expanded5551, cut24}
 use Rattle.pixels.specs.Format.{format, expansion_of}
 use Rattle.pixels.specs.Order as Order
@@ -262,7 +261,3 @@ pub record WorkedCases : Type 0 where
   -- T11 (§3.4): at 24 bits a width of 1024 gives 5 whatever PAGEWIDTH is, unless a lower number applies
   pub width-1024 : (w : Words) → bppmode w ≡ 13 → width w ≡ 1024 → reserved_bit w ≡ false
       → not_tft w ≡ false → swaps_illegal w ≡ false → judge w ≡ 5
-
-pub worked-cases : WorkedCases
-unfolding rated depth pixels cuts expansions written judgement_of t1_row
-worked-cases = record { table = tt; width-1023 = Panel.width-1023; width-1024 = Panel.width-1024 }

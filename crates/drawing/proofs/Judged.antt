@@ -8,7 +8,8 @@ use native.Mathlib.Omega.{arith}
 use borrow.Author.Tests.{ltb-false, leb-false}
 use Rattle.laws.specs.BooleanLaws.{or-false-right}
 use Rattle.laws.specs.Cases.{◌when◌, lowest}
-use Rattle.laws.specs.CaseLaws.{NoneHolds, both-pass}
+use Rattle.laws.specs.CaseLaws.{NoneHolds}
+use Rattle.laws.proofs.CaseLaws.{both-pass}
 use Rattle.panel.specs.Geometry.{width, height}
 use Rattle.panel.specs.Refusals.{word_cases, judge}
 use Rattle.panel.proofs.Accepted.{Accepted, accepted-words, pixels-in-row}

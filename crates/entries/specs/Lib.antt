@@ -1,4 +1,3 @@
 pub mod Order
 pub mod Reading
 pub mod Writing
-pub mod ReadBackLaws

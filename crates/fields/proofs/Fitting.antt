@@ -1,7 +1,7 @@
 -- Fields that are not too wide fit, word by word: what packing asks where 12 does not hold (§1.5).
 use mathlib.Core.Bool.{false}
 use mathlib.Core.Path.{◌≡◌}
-use Rattle.laws.specs.BitFieldLaws.{all_fit}
+use Rattle.laws.proofs.BitFieldLaws.{all_fit}
 use Rattle.laws.specs.BooleanLaws.{AllFalse, all-false}
 use Rattle.registers.specs.Layouts.{LCDCON1, LCDCON2, LCDCON3, LCDCON4, LCDCON5, LCDSADDR1, LCDSADDR2, LCDSADDR3, TPAL}
 use Rattle.fields.specs.Core.{FieldsFit}

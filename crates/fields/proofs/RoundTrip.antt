@@ -10,11 +10,11 @@ use borrow.Author.Tests.{lt-ltb, le-ltb, leb-true, leb-false}
 use lib.Dec.{eqb, leb, ltb}
 use lib.ListN.{get_or}
 use Rattle.laws.specs.Answers.{accepted, judged}
-use Rattle.laws.specs.AnswerLaws.{one-accepts, one-accepted}
+use Rattle.laws.proofs.AnswerLaws.{one-accepts, one-accepted}
 use Rattle.laws.specs.Booleans.{any}
 use Rattle.laws.specs.Cases.{◌when◌, lowest}
 use Rattle.laws.specs.BitFields.{read_only_bits, reserved_set, pack, field, reserved}
-use Rattle.laws.specs.BitFieldLaws.{packed-and-read, packed-is-clear, values-narrow, read-and-packed}
+use Rattle.laws.proofs.BitFieldLaws.{packed-and-read, packed-is-clear, values-narrow, read-and-packed}
 use Rattle.laws.specs.BooleanLaws.{AllFalse, all-false, none_true, or-false-left, or-never}
 use Rattle.registers.specs.Fields.{stn, reserved_bit, reserved_words, stn_reserved_words}
 use Rattle.registers.specs.Layouts.{LCDCON1, LCDCON2, LCDCON3, LCDCON4, LCDCON5, LCDSADDR1, LCDSADDR2, LCDSADDR3, TPAL}

@@ -3,7 +3,7 @@
 use mathlib.Core.Path.{◌≡◌, refl, ap, ap₂}
 use Prim.Native.Nat.{ℕ}
 use Rattle.laws.specs.Answers.{accepted, refused, or_else}
-use Rattle.laws.specs.AnswerLaws.{maps, maps-refusal}
+use Rattle.laws.proofs.AnswerLaws.{maps, maps-refusal}
 use Rattle.drawing.specs.Colour.{Lent}
 use Rattle.scanout.specs.Calls.{step}
 use Rattle.scanout.specs.Lists.{Calls, ◌then◌, a_step, next, final}

@@ -4,7 +4,6 @@ pub mod BitFields
 pub mod Booleans
 pub mod Cases
 pub mod Storing
-pub mod AnswerLaws
 pub mod BitFieldLaws
 pub mod BooleanLaws
 pub mod CaseLaws

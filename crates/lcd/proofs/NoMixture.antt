@@ -6,9 +6,9 @@ use Prim.Native.Nat.{ℕ}
 use lib.Dec.{lit<}
 use lib.ListN.{length}
 use Rattle.laws.specs.Answers.{judged, and_then, Outcome, leaves, outcome, outcome_on}
-use Rattle.laws.specs.AnswerLaws.{outcome-number, went_on}
+use Rattle.laws.proofs.AnswerLaws.{outcome-number, went_on}
 use Rattle.laws.specs.Cases.{Case, ◌when◌, lowest}
-use Rattle.laws.specs.CaseLaws.{does-not-hold}
+use Rattle.laws.proofs.CaseLaws.{does-not-hold}
 use Rattle.drawing.specs.Drawing as Drawing
 use Rattle.memory.specs.Memory.{screen}
 use Rattle.panel.specs.Refusals.{word_cases_where, video_off}

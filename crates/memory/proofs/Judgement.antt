@@ -4,7 +4,7 @@ use mathlib.Core.List.{[], ◌∷◌, ◌++◌}
 use mathlib.Core.Path.{◌≡◌, ◌∙◌}
 use Prim.Native.Nat.{ℕ}
 use Rattle.laws.specs.Cases.{◌when◌, lowest, and_where}
-use Rattle.laws.specs.CaseLaws.{further}
+use Rattle.laws.proofs.CaseLaws.{further}
 use Rattle.panel.specs.Refusals.{word_cases_where}
 use Rattle.memory.specs.Memory.{outside_memory}
 use Rattle.memory.specs.declared.Screen.{Screen}

@@ -9,7 +9,8 @@ use borrow.Author.Tests.{eqb-true, eqb-false, ltb-false, not-false, eq-eqb, ne_e
 use lib.Dec.{eqb}
 use Rattle.laws.specs.BooleanLaws.{and-never, or-false-left, or-false-right, either_way}
 use Rattle.laws.specs.ProductLaws.{product_le}
-use Rattle.laws.specs.CaseLaws.{NoneHolds, lowest-zero-none-holds}
+use Rattle.laws.specs.CaseLaws.{NoneHolds}
+use Rattle.laws.proofs.CaseLaws.{lowest-zero-none-holds}
 use Rattle.registers.specs.Fields.{pnrmode, bppmode, bswp, hwswp, lcdbaseu, lcdbasel, pagewidth, offsize, stn, reserved_bit}
 use Rattle.registers.specs.declared.Words.{Words}
 use Rattle.panel.specs.Geometry.{width, height, stored_bits, outside_modes, stn_width, stn_bits, outside_stn_modes, panel_width, panel_bits, pitch, row_offset}

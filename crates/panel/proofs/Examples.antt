@@ -10,7 +10,8 @@ use borrow.Author.Tests.{ne_eqb, eqb-true, not-false}
 use lib.Dec.{T, eqb}
 use Rattle.laws.specs.Answers.{accepted, refused, judged, and_then, mapped}
 use Rattle.laws.specs.Cases.{lowest, lower}
-use Rattle.laws.specs.CaseLaws.{first, lowest-of-ascending-is-first}
+use Rattle.laws.specs.CaseLaws.{first}
+use Rattle.laws.proofs.CaseLaws.{lowest-of-ascending-is-first}
 use Rattle.registers.specs.Fields.{pnrmode, bppmode, pagewidth, stn, reserved_bit}
 use Rattle.registers.specs.Loading.{load, too_short, short_of_nine, nine_words}
 use Rattle.registers.specs.declared.Words.{Words}

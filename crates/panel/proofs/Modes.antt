@@ -7,7 +7,7 @@ use native.Mathlib.Omega.{arith}
 use borrow.Author.Tests.{lt-leb, le-leb, leb-true, not-false}
 use lib.Dec.{T, leb, ltb, eqb, leb→le, ltb→lt, eqb→eq}
 use Rattle.laws.specs.Answers.{accepted, refused}
-use Rattle.laws.specs.AnswerLaws.{one-accepted, one-refused}
+use Rattle.laws.proofs.AnswerLaws.{one-accepted, one-refused}
 use Rattle.laws.specs.BooleanLaws.{either_way}
 use Rattle.laws.specs.TableLaws.{every, entry-passes}
 use Rattle.registers.specs.Fields.{bppmode, stn}

@@ -7,8 +7,8 @@ use native.Mathlib.Omega.{arith}
 use borrow.Author.Tests.{le-ltb}
 use lib.ListN.{length, get_or}
 use Rattle.laws.specs.Answers.{accepted, leaves}
-use Rattle.laws.specs.AnswerLaws.{leaves-written, one-accepts}
-use Rattle.laws.specs.CaseLaws.{none-of-one}
+use Rattle.laws.proofs.AnswerLaws.{leaves-written, one-accepts}
+use Rattle.laws.proofs.CaseLaws.{none-of-one}
 use Rattle.laws.specs.StoringLaws.{entry-stored, length-stores}
 use Rattle.registers.specs.Loading.{nine_words, word_entries, too_short, short_of_nine, load, begun_with, put_entries}
 use Rattle.registers.specs.declared.Words.{Words}

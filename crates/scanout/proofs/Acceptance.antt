@@ -12,7 +12,8 @@ use lib.ListN.{length}
 use Rattle.laws.specs.Answers.{judged, accepted}
 use Rattle.laws.specs.BooleanLaws.{or-false, or-false-left, or-false-right}
 use Rattle.laws.specs.Cases.{◌when◌, lowest, lower}
-use Rattle.laws.specs.CaseLaws.{NoneHolds, lowest-zero-none-holds, joined-pass, pass-joined, none-of-one}
+use Rattle.laws.specs.CaseLaws.{NoneHolds}
+use Rattle.laws.proofs.CaseLaws.{lowest-zero-none-holds, joined-pass, pass-joined, none-of-one}
 use Rattle.drawing.specs.Colour.{Lent, colour}
 use Rattle.drawing.specs.Drawing.{palette_wrong, row_outside, column_outside, colour_tail, drawing_cases, judge_pixel, draw_pixel}
 use Rattle.panel.specs.Refusals.{video_off}

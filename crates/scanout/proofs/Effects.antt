@@ -8,7 +8,7 @@ use native.Mathlib.Omega.{arith}
 use lib.ListN.{length}
 use Rattle.drawing.specs.Colour.{Lent}
 use Rattle.laws.specs.Answers.{Answer, accepted, refused, outcome, or_else}
-use Rattle.laws.specs.AnswerLaws.{judged-accepted, judged-refused, is-refused, else-kept}
+use Rattle.laws.proofs.AnswerLaws.{judged-accepted, judged-refused, is-refused, else-kept}
 use Rattle.drawing.specs.Drawing.{pixels}
 use Rattle.registers.specs.Loading.{too_short}
 use Rattle.signals.specs.Clock.{clock_at}

@@ -10,7 +10,7 @@ use native.Mathlib.Omega.{arith}
 use lib.ListN.{length}
 use Rattle.drawing.specs.Colour.{Lent}
 use Rattle.laws.specs.Answers.{Answer, accepted, refused, judged, and_then, or_else, number_of}
-use Rattle.laws.specs.AnswerLaws.{judged-accepted}
+use Rattle.laws.proofs.AnswerLaws.{judged-accepted}
 use Rattle.drawing.specs.Drawing.{pixels}
 use Rattle.memory.specs.Memory.{screen}
 use Rattle.registers.specs.Loading.{load, too_short}

@@ -5,7 +5,7 @@ use mathlib.Core.Path.{◌≡◌, refl, sym, ap, ◌∙◌}
 use Prim.Native.Nat.{ℕ}
 use native.Mathlib.Omega.{arith}
 use Rattle.laws.specs.Answers.{Answer, accepted, refused, judged, judged_on, and_then}
-use Rattle.laws.specs.AnswerLaws.{one-refuses, one-accepts, gives-refusal, goes_on, passes_on}
+use Rattle.laws.proofs.AnswerLaws.{one-refuses, one-accepts, gives-refusal, goes_on, passes_on}
 use Rattle.laws.specs.BooleanLaws.{or-false-right}
 use Rattle.drawing.specs.Drawing.{palette_wrong}
 use Rattle.scanout.specs.Refusals.{judge_scan}

@@ -9,7 +9,7 @@ use borrow.Author.Tests.{lt-ltb, le-ltb, ltb-true, ltb-false, eq-eqb, ne_eqb}
 use lib.Dec.{eqb, ltb, lit≤}
 use lib.ListN.{length, drop}
 use Rattle.laws.specs.Answers.{Answer, accepted, Outcome}
-use Rattle.laws.specs.AnswerLaws.{leaves-written, leaves-as-it-was}
+use Rattle.laws.proofs.AnswerLaws.{leaves-written, leaves-as-it-was}
 use Rattle.laws.specs.Storing.{stores}
 use Rattle.panel.specs.Refusals.{video_off}
 use Rattle.registers.specs.Fields.{envid}

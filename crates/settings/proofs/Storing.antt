@@ -8,9 +8,9 @@ use borrow.Author.Tests.{ltb-false}
 use lib.Dec.{ltb, lit<}
 use lib.ListN.{length, get_or, take, set, length-set, get_or-map}
 use Rattle.laws.specs.Answers.{Answer, judged_on}
-use Rattle.laws.specs.AnswerLaws.{number-went-on}
+use Rattle.laws.proofs.AnswerLaws.{number-went-on}
 use Rattle.laws.specs.Cases.{◌when◌}
-use Rattle.laws.specs.CaseLaws.{lowest-zero-none-holds}
+use Rattle.laws.proofs.CaseLaws.{lowest-zero-none-holds}
 use Rattle.laws.specs.TableLaws.{every-place-passes}
 use Rattle.memory.specs.Memory.{check}
 use Rattle.registers.specs.Loading.{too_short, short_of_nine, load}

@@ -7,7 +7,8 @@ use native.Mathlib.Omega.{arith}
 use borrow.Author.Tests.{ltb-false, not-false}
 use lib.Dec.{eqb}
 use Rattle.laws.specs.Cases.{◌when◌, lowest}
-use Rattle.laws.specs.CaseLaws.{NoneHolds, both-pass}
+use Rattle.laws.specs.CaseLaws.{NoneHolds}
+use Rattle.laws.proofs.CaseLaws.{both-pass}
 use Rattle.memory.specs.Memory.{row_words, outside_memory, stn_memory_cases}
 use Rattle.memory.specs.declared.Screen.{Screen}
 use Rattle.memory.proofs.Window.{row-words-lent}

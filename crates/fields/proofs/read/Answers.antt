@@ -1,7 +1,7 @@
 -- `fields::read` meets its contract.
 use mathlib.Core.Path.{sym, ◌∙◌}
 use lib.Dec.{lit<}
-use Rattle.laws.specs.AnswerLaws.{one-refuses, one-accepts}
+use Rattle.laws.proofs.AnswerLaws.{one-refuses, one-accepts}
 use Rattle.fields.specs.Reading.{read}
 use Rattle.fields.proofs.read.Goals as goal
 

@@ -1,7 +1,7 @@
 -- `fields::write` meets its contract.
 use mathlib.Core.Path.{sym, ◌∙◌}
 use lib.Dec.{lit<}
-use Rattle.laws.specs.AnswerLaws.{one-refuses, one-accepts}
+use Rattle.laws.proofs.AnswerLaws.{one-refuses, one-accepts}
 use Rattle.fields.proofs.Fitting.{fields_fit}
 use Rattle.fields.specs.Writing.{write}
 use Rattle.fields.proofs.write.Goals as goal

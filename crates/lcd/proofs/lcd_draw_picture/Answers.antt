@@ -1,7 +1,7 @@
 -- `lcd::lcd_draw_picture` meets its contract.
 -- with nine words
 use mathlib.Core.Path.{sym, ap, ◌∙◌}
-use Rattle.laws.specs.AnswerLaws.{writes-on, leaves-on}
+use Rattle.laws.proofs.AnswerLaws.{writes-on, leaves-on}
 use Rattle.lcd.specs.Calls.{draw_picture}
 use Rattle.registers.specs.Loading.{loaded}
 use Rattle.lcd.proofs.lcd_draw_picture.Goals as goal

@@ -1,6 +1,6 @@
 -- `memory::and_outside` meets its contract.
 use mathlib.Core.Path.{sym, ◌∙◌}
-use Rattle.laws.specs.CaseLaws.{and-where-refused, and-where-holds, and-where-passes}
+use Rattle.laws.proofs.CaseLaws.{and-where-refused, and-where-holds, and-where-passes}
 use Rattle.memory.proofs.and_outside.Goals as goal
 
 pub returns-then-to_7-ne0 : goal.returns-then-to_7-ne0

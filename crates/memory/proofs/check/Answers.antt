@@ -1,6 +1,6 @@
 -- `memory::check` meets its contract.
 use mathlib.Core.Path.{sym, ap, ◌∙◌}
-use Rattle.laws.specs.AnswerLaws.{judges-on, passes-number}
+use Rattle.laws.proofs.AnswerLaws.{judges-on, passes-number}
 use Rattle.registers.specs.Loading.{loaded}
 use Rattle.memory.specs.Memory.{check}
 use Rattle.memory.proofs.check.Goals as goal

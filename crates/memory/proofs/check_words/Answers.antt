@@ -2,7 +2,7 @@
 use mathlib.Core.List.{[], ◌∷◌}
 use mathlib.Core.Path.{sym, ◌∙◌}
 use Rattle.laws.specs.Cases.{◌when◌}
-use Rattle.laws.specs.CaseLaws.{and-next, further}
+use Rattle.laws.proofs.CaseLaws.{and-next, further}
 use Rattle.panel.specs.Refusals.{either_cases, judge_either, clock_too_fast}
 use Rattle.memory.specs.Memory.{screen, outside_memory, judge_check}
 use Rattle.memory.proofs.check_words.Goals as goal

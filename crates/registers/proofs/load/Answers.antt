@@ -2,7 +2,7 @@
 use borrow.Author.Tests.{lt-ltb, le-ltb}
 use mathlib.Core.Path.{refl}
 use lib.Dec.{lit<}
-use Rattle.laws.specs.AnswerLaws.{one-refuses, one-accepts}
+use Rattle.laws.proofs.AnswerLaws.{one-refuses, one-accepts}
 use Rattle.registers.specs.Loading.{load, too_short, short_of_nine}
 use Rattle.registers.proofs.load.Goals as goal
 

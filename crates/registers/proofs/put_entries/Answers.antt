@@ -3,8 +3,8 @@ use mathlib.Core.Path.{refl, sym, ap, ◌∙◌}
 use native.Mathlib.Omega.{arith}
 use borrow.Author.Tests.{lt-ltb}
 use Rattle.laws.specs.Answers.{leaves}
-use Rattle.laws.specs.AnswerLaws.{leaves-as-it-was}
-use Rattle.laws.specs.CaseLaws.{lowest-of-ascending-is-first, stops}
+use Rattle.laws.proofs.AnswerLaws.{leaves-as-it-was}
+use Rattle.laws.proofs.CaseLaws.{lowest-of-ascending-is-first, stops}
 use Rattle.laws.specs.StoringLaws.{none-stored, one_more, all-stored}
 use Rattle.registers.specs.Loading.{too_short, put_entries}
 use Rattle.registers.proofs.Lending.{room-for-all}

@@ -2,7 +2,7 @@
 -- where the change is accepted
 use mathlib.Core.Path.{sym, ap, ◌∙◌}
 use Rattle.laws.specs.Answers.{leaves}
-use Rattle.laws.specs.AnswerLaws.{writes-on, leaves-on}
+use Rattle.laws.proofs.AnswerLaws.{writes-on, leaves-on}
 use Rattle.scanout.specs.Answers.{changed}
 use Rattle.scans.specs.Scan.{change_on}
 use Rattle.scans.proofs.change_on.Goals as goal

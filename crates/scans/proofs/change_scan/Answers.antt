@@ -1,7 +1,7 @@
 -- `scans::change_scan` meets its contract.
 use borrow.Author.Tests.{lt-ltb, le-ltb}
 use native.Mathlib.Omega.{arith}
-use Rattle.laws.specs.AnswerLaws.{one-refuses, one-accepts, writes-on, leaves-on}
+use Rattle.laws.proofs.AnswerLaws.{one-refuses, one-accepts, writes-on, leaves-on}
 use Rattle.registers.specs.Loading.{too_short}
 use Rattle.scans.specs.Scan.{load_scan, change_scan}
 use Rattle.scans.proofs.change_scan.Goals as goal

@@ -1,7 +1,7 @@
 -- `scans::judge_short` meets its contract.
 use native.Mathlib.Omega.{arith}
 use borrow.Author.Tests.{lt-ltb, le-ltb}
-use Rattle.laws.specs.AnswerLaws.{one-refuses, one-accepts, judges-on, passes-number}
+use Rattle.laws.proofs.AnswerLaws.{one-refuses, one-accepts, judges-on, passes-number}
 use Rattle.registers.specs.Loading.{too_short}
 use Rattle.scans.specs.Scan.{load_scan}
 use Rattle.scans.proofs.judge_short.Goals as goal

@@ -2,8 +2,8 @@
 use native.Mathlib.Omega.{arith}
 use borrow.Author.Tests.{lt-ltb, le-ltb}
 use mathlib.Core.Path.{sym}
-use Rattle.laws.specs.AnswerLaws.{leaves-as-it-was, leaves-written}
-use Rattle.laws.specs.CaseLaws.{lowest-of-ascending-is-first, stops, ends}
+use Rattle.laws.proofs.AnswerLaws.{leaves-as-it-was, leaves-written}
+use Rattle.laws.proofs.CaseLaws.{lowest-of-ascending-is-first, stops, ends}
 use Rattle.registers.specs.Loading.{too_short}
 use Rattle.scans.specs.Scan.{put_started}
 use Rattle.scans.proofs.put_started.Goals as goal

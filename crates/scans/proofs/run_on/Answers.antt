@@ -7,7 +7,7 @@ use Prim.Native.Nat.{ℕ, zero, suc, ◌<◌}
 use lib.ListN.{set}
 use Rattle.panel.proofs.Bounds.{frame-clocks-le}
 use Rattle.laws.specs.Answers.{Answer, accepted, refused, outcome}
-use Rattle.laws.specs.AnswerLaws.{judged-accepted, judged-refused}
+use Rattle.laws.proofs.AnswerLaws.{judged-accepted, judged-refused}
 use Rattle.scanout.specs.Answers.{Taken, ran}
 use Rattle.drawing.specs.Colour.{Lent}
 use Rattle.scanout.specs.Calls.{Run, count_of, drawn, judge_run, run, running}

@@ -1,7 +1,7 @@
 -- `scans::start_scan` meets its contract.
 -- a start that is accepted
 use mathlib.Core.Path.{sym, ap, ◌∙◌}
-use Rattle.laws.specs.AnswerLaws.{writes-on, leaves-on}
+use Rattle.laws.proofs.AnswerLaws.{writes-on, leaves-on}
 use Rattle.scanout.specs.Answers.{started}
 use Rattle.scans.specs.Scan.{start_scan}
 use Rattle.scans.proofs.start_scan.Goals as goal

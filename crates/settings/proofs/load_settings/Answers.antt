@@ -3,7 +3,7 @@ use native.Mathlib.Omega.{arith}
 use borrow.Author.Tests.{lt-ltb}
 use mathlib.Core.Path.{◌≡◌, sym, ◌∙◌}
 use lib.Dec.{lit<}
-use Rattle.laws.specs.AnswerLaws.{one-refuses, passes-number, leaves-as-it-was, leaves-written}
+use Rattle.laws.proofs.AnswerLaws.{one-refuses, passes-number, leaves-as-it-was, leaves-written}
 use Rattle.settings.proofs.Storing.{checked-has-nine, as-checked}
 use Rattle.registers.specs.Loading.{too_short, short_of_nine, load}
 use Rattle.settings.specs.Stores.{judge_load, load_settings}

@@ -1,6 +1,6 @@
 -- `sizes::read_sizes` meets its contract.
 use mathlib.Core.Path.{sym, ap, ◌∙◌}
-use Rattle.laws.specs.AnswerLaws.{writes-on, leaves-on}
+use Rattle.laws.proofs.AnswerLaws.{writes-on, leaves-on}
 use Rattle.registers.specs.Loading.{loaded}
 use Rattle.sizes.specs.Sizes.{read_sizes}
 use Rattle.sizes.proofs.read_sizes.Goals as goal

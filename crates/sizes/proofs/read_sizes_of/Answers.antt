@@ -1,7 +1,7 @@
 -- `sizes::read_sizes_of` meets its contract.
 use mathlib.Core.Path.{sym, ◌∙◌}
 use lib.Dec.{lit<}
-use Rattle.laws.specs.AnswerLaws.{one-refuses, one-accepts, writes-on, leaves-on}
+use Rattle.laws.proofs.AnswerLaws.{one-refuses, one-accepts, writes-on, leaves-on}
 use Rattle.sizes.specs.Sizes.{read_sizes_of}
 use Rattle.sizes.proofs.read_sizes_of.Goals as goal
 

@@ -1,7 +1,7 @@
 -- `stn::draw_stn` meets its contract.
 use mathlib.Core.Path.{◌≡◌, sym, ◌∙◌}
 use lib.ListN.{length}
-use Rattle.laws.specs.AnswerLaws.{leaves-as-it-was, leaves-written}
+use Rattle.laws.proofs.AnswerLaws.{leaves-as-it-was, leaves-written}
 use Rattle.stn.specs.Drawing.{judge_stn_drawing, draw_stn}
 use Rattle.stn.proofs.Judged.{rows-lent, bytes-lent}
 use Rattle.stn.proofs.draw_stn.Goals as goal

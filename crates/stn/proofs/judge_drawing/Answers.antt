@@ -1,7 +1,7 @@
 -- `stn::judge_drawing` meets its contract: 1 to 8, and then 9, 10 and 17.
 use mathlib.Core.Path.{refl, ap, ◌∙◌}
 use lib.Dec.{ltb}
-use Rattle.laws.specs.CaseLaws.{and-next, further}
+use Rattle.laws.proofs.CaseLaws.{and-next, further}
 use Rattle.memory.specs.Memory.{stn_memory_cases, judge_stn_memory}
 use Rattle.registers.specs.Loading.{too_short}
 use Rattle.stn.specs.Drawing.{stn_tail, judge_stn_drawing}

@@ -4,7 +4,7 @@ use Prim.Native.Nat.{ℕ, ◌≤◌}
 use native.Mathlib.Nat.{dvd-zero, dvd-mul_right_of_dvd}
 use native.Mathlib.Omega.{arith}
 use lib.ListN.{length}
-use Rattle.laws.specs.AnswerLaws.{leaves-as-it-was, leaves-written}
+use Rattle.laws.proofs.AnswerLaws.{leaves-as-it-was, leaves-written}
 use Rattle.drawing.specs.Colour.{lending}
 use Rattle.drawing.specs.Drawing.{pixels, pixels_stored, judge_picture, draw_picture}
 use Rattle.drawing.proofs.Judged.{rows-of-picture, picture-has-room}

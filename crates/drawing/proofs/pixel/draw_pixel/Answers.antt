@@ -1,5 +1,5 @@
 -- `drawing::pixel::draw_pixel` meets its contract.
-use Rattle.laws.specs.AnswerLaws.{gives-refusal, gives-answer}
+use Rattle.laws.proofs.AnswerLaws.{gives-refusal, gives-answer}
 use Rattle.drawing.specs.Drawing.{draw_pixel}
 use Rattle.drawing.proofs.pixel.draw_pixel.Goals as goal
 

@@ -3,7 +3,7 @@ use mathlib.Core.Bool.{◌||◌}
 use mathlib.Core.List.{[], ◌∷◌}
 use mathlib.Core.Path.{refl, ◌∙◌}
 use Rattle.laws.specs.Cases.{◌when◌}
-use Rattle.laws.specs.CaseLaws.{and-next, further}
+use Rattle.laws.proofs.CaseLaws.{and-next, further}
 use Rattle.drawing.specs.Drawing.{row_outside, column_outside, drawing_cases, judge_drawing, judge_pixel}
 use Rattle.drawing.proofs.pixel.judge_pixel.Goals as goal
 

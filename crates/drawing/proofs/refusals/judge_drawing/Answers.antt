@@ -1,7 +1,7 @@
 -- `drawing::refusals::judge_drawing` meets its contract: 1 to 8, and then 9 and 10.
 use mathlib.Core.Bool.{Bool, ◌||◌}
 use mathlib.Core.Path.{refl, ap, ◌∙◌}
-use Rattle.laws.specs.CaseLaws.{and-next, further}
+use Rattle.laws.proofs.CaseLaws.{and-next, further}
 use Rattle.memory.specs.Memory.{memory_cases, judge_memory}
 use Rattle.drawing.specs.Drawing.{colour_tail, judge_drawing}
 use Rattle.drawing.proofs.refusals.judge_drawing.Goals as goal

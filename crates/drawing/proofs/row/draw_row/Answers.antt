@@ -3,7 +3,7 @@ use mathlib.Core.Path.{◌≡◌, sym, ◌∙◌}
 use Prim.Native.Nat.{◌≤◌}
 use native.Mathlib.Omega.{arith}
 use lib.ListN.{length}
-use Rattle.laws.specs.AnswerLaws.{leaves-as-it-was, leaves-written}
+use Rattle.laws.proofs.AnswerLaws.{leaves-as-it-was, leaves-written}
 use Rattle.panel.specs.Geometry.{width}
 use Rattle.drawing.specs.Drawing.{judge_row, draw_row}
 use Rattle.drawing.proofs.Judged.{rows-of-row, row-on-panel, row-has-room}

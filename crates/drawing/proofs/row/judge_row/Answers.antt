@@ -2,7 +2,7 @@
 use mathlib.Core.List.{[], ◌∷◌}
 use mathlib.Core.Path.{refl, ◌∙◌}
 use Rattle.laws.specs.Cases.{◌when◌}
-use Rattle.laws.specs.CaseLaws.{and-next, further}
+use Rattle.laws.proofs.CaseLaws.{and-next, further}
 use Rattle.panel.specs.Geometry.{width}
 use Rattle.registers.specs.Loading.{too_short}
 use Rattle.drawing.specs.Drawing.{row_outside, drawing_cases, judge_drawing, judge_row}

@@ -1,6 +1,6 @@
 -- `entries::reading::read_fields` meets its contract.
 use mathlib.Core.Path.{sym, ap, ◌∙◌}
-use Rattle.laws.specs.AnswerLaws.{writes-on, leaves-on}
+use Rattle.laws.proofs.AnswerLaws.{writes-on, leaves-on}
 use Rattle.registers.specs.Loading.{loaded}
 use Rattle.entries.specs.Reading.{read_fields}
 use Rattle.entries.proofs.reading.read_fields.Goals as goal

@@ -1,6 +1,6 @@
 -- `entries::reading::read_fields_of` meets its contract.
 use mathlib.Core.Path.{sym, ap, ◌∙◌}
-use Rattle.laws.specs.AnswerLaws.{writes-on, leaves-on}
+use Rattle.laws.proofs.AnswerLaws.{writes-on, leaves-on}
 use Rattle.fields.specs.Reading.{fields_read}
 use Rattle.entries.specs.Reading.{read_fields_of}
 use Rattle.entries.proofs.reading.read_fields_of.Goals as goal

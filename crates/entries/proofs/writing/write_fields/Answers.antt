@@ -6,7 +6,7 @@ use mathlib.Core.List.{List}
 use mathlib.Core.Path.{◌≡◌, ap, ◌∙◌}
 use Prim.Native.Nat.{ℕ, ◌<◌, ◌≤◌}
 use lib.ListN.{length}
-use Rattle.laws.specs.AnswerLaws.{one-refuses, one-accepts, writes-on, leaves-on}
+use Rattle.laws.proofs.AnswerLaws.{one-refuses, one-accepts, writes-on, leaves-on}
 use Rattle.laws.specs.BooleanLaws.{or-false, or-true}
 use Rattle.registers.specs.Loading.{too_short}
 use Rattle.entries.specs.Writing.{too_few, load_fields, write_fields}

@@ -1,6 +1,6 @@
 -- `entries::writing::write_fields_of` meets its contract.
 use mathlib.Core.Path.{sym, ap, ◌∙◌}
-use Rattle.laws.specs.AnswerLaws.{writes-on, leaves-on}
+use Rattle.laws.proofs.AnswerLaws.{writes-on, leaves-on}
 use Rattle.fields.specs.Writing.{words_written}
 use Rattle.entries.specs.Writing.{write_fields_of}
 use Rattle.entries.proofs.writing.write_fields_of.Goals as goal

@@ -6,10 +6,10 @@ use mathlib.Core.Path.{◌≡◌, sym, ap, ◌∙◌}
 use Prim.Native.Nat.{ℕ, ◌≤◌}
 use borrow.Author.Tests.{ltb-false}
 use lib.ListN.{set}
-use Rattle.laws.specs.AnswerLaws.{leaves-as-it-was, leaves-written}
+use Rattle.laws.proofs.AnswerLaws.{leaves-as-it-was, leaves-written}
 use Rattle.laws.specs.BooleanLaws.{or-false-right}
 use Rattle.laws.specs.Cases.{◌when◌}
-use Rattle.laws.specs.CaseLaws.{both-pass}
+use Rattle.laws.proofs.CaseLaws.{both-pass}
 use Rattle.registers.specs.Loading.{too_short}
 use Rattle.memory.specs.Memory.{memory_cases}
 use Rattle.memory.specs.declared.Screen.{Screen}

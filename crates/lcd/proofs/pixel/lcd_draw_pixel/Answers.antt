@@ -1,7 +1,7 @@
 -- `lcd::pixel::lcd_draw_pixel` meets its contract.
 -- with nine words
 use mathlib.Core.Path.{sym, ap, ◌∙◌}
-use Rattle.laws.specs.AnswerLaws.{writes-on, leaves-on}
+use Rattle.laws.proofs.AnswerLaws.{writes-on, leaves-on}
 use Rattle.registers.specs.Loading.{loaded}
 use Rattle.lcd.specs.Pixel.{draw_pixel}
 use Rattle.lcd.proofs.pixel.lcd_draw_pixel.Goals as goal

@@ -1,6 +1,6 @@
 -- `panel::frame::accept_timed` meets its contract.
 use mathlib.Core.Path.{sym, ap, ◌∙◌}
-use Rattle.laws.specs.AnswerLaws.{goes_on, passes_on}
+use Rattle.laws.proofs.AnswerLaws.{goes_on, passes_on}
 use Rattle.registers.specs.Loading.{loaded}
 use Rattle.panel.specs.Counts.{accept_timed, timed_words}
 use Rattle.panel.specs.Refusals.{accept}

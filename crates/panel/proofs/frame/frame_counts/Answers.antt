@@ -1,6 +1,6 @@
 -- `panel::frame::frame_counts` meets its contract.
 use mathlib.Core.Path.{sym, ap, ◌∙◌}
-use Rattle.laws.specs.AnswerLaws.{maps, maps-refusal}
+use Rattle.laws.proofs.AnswerLaws.{maps, maps-refusal}
 use Rattle.registers.specs.Loading.{loaded}
 use Rattle.panel.specs.Counts.{accept_timed, counts, counts_of}
 use Rattle.panel.proofs.frame.frame_counts.Goals as goal

@@ -1,6 +1,6 @@
 -- `panel::frame::frame_rate` meets its contract.
 use mathlib.Core.Path.{sym, ap, ◌∙◌}
-use Rattle.laws.specs.AnswerLaws.{maps, maps-refusal}
+use Rattle.laws.proofs.AnswerLaws.{maps, maps-refusal}
 use Rattle.registers.specs.Loading.{loaded}
 use Rattle.panel.specs.Counts.{accept_timed, rate, panel_millihertz}
 use Rattle.panel.proofs.frame.frame_rate.Goals as goal

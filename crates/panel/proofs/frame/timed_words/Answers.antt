@@ -1,6 +1,6 @@
 -- `panel::frame::timed_words` meets its contract.
 use mathlib.Core.Path.{refl}
-use Rattle.laws.specs.AnswerLaws.{gives-refusal, gives-answer}
+use Rattle.laws.proofs.AnswerLaws.{gives-refusal, gives-answer}
 use Rattle.panel.specs.Counts.{timed_words}
 use Rattle.panel.proofs.frame.timed_words.Goals as goal
 

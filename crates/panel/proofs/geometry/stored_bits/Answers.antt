@@ -3,7 +3,7 @@
 use native.Mathlib.Omega.{arith}
 use lib.Dec.{lit<}
 use Rattle.laws.specs.Answers.{judged}
-use Rattle.laws.specs.AnswerLaws.{one-refuses}
+use Rattle.laws.proofs.AnswerLaws.{one-refuses}
 use Rattle.laws.specs.Cases.{lowest}
 use Rattle.panel.specs.Geometry.{depth_of, stored_bits, outside_modes}
 use Rattle.panel.proofs.Modes.{outside_below, outside_above}

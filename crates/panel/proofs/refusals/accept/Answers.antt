@@ -1,7 +1,7 @@
 -- `panel::refusals::accept` meets its contract.
 use mathlib.Core.Path.{sym, ap, ◌∙◌}
 use Rattle.laws.specs.Answers.{judged}
-use Rattle.laws.specs.AnswerLaws.{goes_on, passes_on}
+use Rattle.laws.proofs.AnswerLaws.{goes_on, passes_on}
 use Rattle.registers.specs.Loading.{load, loaded}
 use Rattle.panel.specs.Refusals.{judge_either, accept}
 use Rattle.panel.proofs.refusals.accept.Goals as goal

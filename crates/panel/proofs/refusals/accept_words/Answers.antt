@@ -1,6 +1,6 @@
 -- `panel::refusals::accept_words` meets its contract.
 use mathlib.Core.Path.{refl}
-use Rattle.laws.specs.AnswerLaws.{gives-refusal, gives-answer}
+use Rattle.laws.proofs.AnswerLaws.{gives-refusal, gives-answer}
 use Rattle.panel.proofs.refusals.accept_words.Goals as goal
 
 pub returns-then-refusal-ne0 : goal.returns-then-refusal-ne0

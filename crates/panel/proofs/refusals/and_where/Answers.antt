@@ -1,5 +1,5 @@
 -- `panel::refusals::and_where` meets its contract.
-use Rattle.laws.specs.CaseLaws.{and-where-refused, and-where-holds, and-where-passes}
+use Rattle.laws.proofs.CaseLaws.{and-where-refused, and-where-holds, and-where-passes}
 use Rattle.panel.proofs.refusals.and_where.Goals as goal
 
 pub returns-then-refusal-ne0 : goal.returns-then-refusal-ne0

@@ -2,7 +2,7 @@
 use mathlib.Core.List.{[]}
 use mathlib.Core.Path.{refl, ◌∙◌}
 use Rattle.laws.specs.Cases.{lowest}
-use Rattle.laws.specs.CaseLaws.{and-next, further}
+use Rattle.laws.proofs.CaseLaws.{and-next, further}
 use Rattle.panel.specs.Refusals.{word_cases_where, judge_where}
 use Rattle.panel.proofs.refusals.judge_where.Goals as goal
 

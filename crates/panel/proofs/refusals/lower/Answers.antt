@@ -2,7 +2,7 @@
 use mathlib.Core.Path.{refl, sym}
 use native.Mathlib.Omega.{arith}
 use Rattle.laws.specs.Cases.{lower}
-use Rattle.laws.specs.CaseLaws.{lower-min, lower-none}
+use Rattle.laws.proofs.CaseLaws.{lower-min, lower-none}
 use Rattle.panel.proofs.refusals.lower.Goals as goal
 
 pub returns-then-a-eq0 : goal.returns-then-a-eq0

@@ -3,7 +3,7 @@ use mathlib.Core.Bool.{◌||◌}
 use mathlib.Core.List.{◌++◌}
 use mathlib.Core.Path.{◌≡◌, refl, sym, ap₂, ◌∙◌}
 use Rattle.laws.specs.Cases.{lower, lowest}
-use Rattle.laws.specs.CaseLaws.{lowest-joined, and-next, further}
+use Rattle.laws.proofs.CaseLaws.{lowest-joined, and-next, further}
 use Rattle.scanout.specs.Refusals.{viewport_cases, state_cases, change_tail, judge_change}
 use Rattle.scanout.proofs.refusals.judge_change.Goals as goal
 

@@ -1,7 +1,7 @@
 -- `scanout::refusals::judge_scan` meets its contract.
 use mathlib.Core.Bool.{Bool, ◌||◌}
 use mathlib.Core.Path.{refl, ap, ◌∙◌}
-use Rattle.laws.specs.CaseLaws.{and-next, further}
+use Rattle.laws.proofs.CaseLaws.{and-next, further}
 use Rattle.scanout.specs.Refusals.{state_cases, scan_tail, judge_scan}
 use Rattle.scanout.proofs.refusals.judge_scan.Goals as goal
 

@@ -1,6 +1,6 @@
 -- `scanout::refusals::judge_start` meets its contract.
 use mathlib.Core.Path.{refl, ◌∙◌}
-use Rattle.laws.specs.CaseLaws.{and-next, further}
+use Rattle.laws.proofs.CaseLaws.{and-next, further}
 use Rattle.memory.specs.Memory.{memory_cases, judge_memory}
 use Rattle.scanout.specs.Refusals.{start_tail, judge_start}
 use Rattle.scanout.proofs.refusals.judge_start.Goals as goal

@@ -7,7 +7,7 @@ use borrow.Author.Tests.{eqb-true}
 use lib.Dec.{eqb}
 use Rattle.laws.specs.BooleanLaws.{both_true}
 use Rattle.laws.specs.Cases.{lower, lowest}
-use Rattle.laws.specs.CaseLaws.{lower-same, lowest-joined}
+use Rattle.laws.proofs.CaseLaws.{lower-same, lowest-joined}
 use Rattle.memory.specs.Memory.{memory_cases, judge_memory}
 use Rattle.scanout.specs.Refusals.{viewport_cases}
 use Rattle.scanout.specs.declared.state.State.{State}

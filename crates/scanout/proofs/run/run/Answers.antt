@@ -6,7 +6,7 @@ use native.Mathlib.Omega.{arith}
 use borrow.Author.Tests.{ltb-false}
 use lib.ListN.{length}
 use Rattle.laws.specs.Answers.{Outcome}
-use Rattle.laws.specs.AnswerLaws.{gives-refusal, gives-answer, leaves-as-it-was, leaves-written}
+use Rattle.laws.proofs.AnswerLaws.{gives-refusal, gives-answer, leaves-as-it-was, leaves-written}
 use Rattle.drawing.specs.Colour.{lending}
 use Rattle.drawing.specs.Drawing.{pixels}
 use Rattle.registers.specs.Loading.{too_short}

@@ -1,6 +1,6 @@
 -- `scanout::start::begin` meets its contract.
 use mathlib.Core.Path.{ap}
-use Rattle.laws.specs.AnswerLaws.{gives-refusal, gives-answer}
+use Rattle.laws.proofs.AnswerLaws.{gives-refusal, gives-answer}
 use Rattle.memory.specs.Memory.{screen}
 use Rattle.scanout.specs.declared.state.Viewport.{Viewport}
 use Rattle.scanout.proofs.start.begin.Goals as goal

@@ -1,6 +1,6 @@
 -- `scanout::start::start` meets its contract.
 use mathlib.Core.Path.{sym, ap, ◌∙◌}
-use Rattle.laws.specs.AnswerLaws.{goes_on, passes_on}
+use Rattle.laws.proofs.AnswerLaws.{goes_on, passes_on}
 use Rattle.registers.specs.Loading.{loaded}
 use Rattle.scanout.specs.Calls.{start}
 use Rattle.scanout.proofs.start.start.Goals as goal

@@ -2,7 +2,7 @@
 use mathlib.Core.Path.{◌≡◌, sym, ap, ap₂, ◌∙◌}
 use Prim.Native.Nat.{ℕ}
 use native.Mathlib.Omega.{arith}
-use Rattle.laws.specs.AnswerLaws.{gives-refusal, gives-answer}
+use Rattle.laws.proofs.AnswerLaws.{gives-refusal, gives-answer}
 use Rattle.drawing.specs.Colour.{lending}
 use Rattle.memory.specs.declared.Screen.{Screen}
 use Rattle.panel.specs.Timing.{Timing, timing}

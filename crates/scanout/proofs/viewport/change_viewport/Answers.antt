@@ -1,6 +1,6 @@
 -- `scanout::viewport::change_viewport` meets its contract.
 use mathlib.Core.Path.{refl}
-use Rattle.laws.specs.AnswerLaws.{gives-refusal, gives-answer}
+use Rattle.laws.proofs.AnswerLaws.{gives-refusal, gives-answer}
 use Rattle.scanout.specs.Calls.{change}
 use Rattle.scanout.proofs.viewport.change_viewport.Goals as goal
 

@@ -3,8 +3,8 @@ use native.Mathlib.Omega.{arith}
 use borrow.Author.Tests.{lt-ltb, le-ltb}
 use mathlib.Core.Path.{sym, ◌∙◌}
 use lib.ListN.{length-set}
-use Rattle.laws.specs.AnswerLaws.{leaves-as-it-was, leaves-written}
-use Rattle.laws.specs.CaseLaws.{lowest-of-ascending-is-first, stops}
+use Rattle.laws.proofs.AnswerLaws.{leaves-as-it-was, leaves-written}
+use Rattle.laws.proofs.CaseLaws.{lowest-of-ascending-is-first, stops}
 use Rattle.laws.specs.Cases.{lowest}
 use Rattle.laws.specs.Storing.{stores}
 use Rattle.panel.specs.Refusals.{judge_timed}

@@ -1,6 +1,6 @@
 -- `sizes::counts::read_counts` meets its contract.
 use mathlib.Core.Path.{sym, ap, ◌∙◌}
-use Rattle.laws.specs.AnswerLaws.{writes-on, leaves-on}
+use Rattle.laws.proofs.AnswerLaws.{writes-on, leaves-on}
 use Rattle.sizes.specs.Counts.{read_counts}
 use Rattle.registers.specs.Loading.{loaded}
 use Rattle.sizes.proofs.counts.read_counts.Goals as goal

@@ -6,10 +6,10 @@ use Rattle.std.proofs.Math.Path.{refl, sym, ap}
 use Rattle.std.proofs.Common.{◌∙◌}
 use borrow.Author.Tests.{ltb-false}
 use Rattle.laws.specs.Answers.{accepted, judged, Outcome, leaves}
-use Rattle.laws.specs.AnswerLaws.{one-accepts, writes-on, went_on}
+use Rattle.laws.proofs.AnswerLaws.{one-accepts, writes-on, went_on}
 use Rattle.laws.specs.BooleanLaws.{or-false-right}
 use Rattle.laws.specs.Cases.{◌when◌, lowest}
-use Rattle.laws.specs.CaseLaws.{lowest-zero-none-holds}
+use Rattle.laws.proofs.CaseLaws.{lowest-zero-none-holds}
 use Rattle.laws.specs.Storing.{stores}
 use Rattle.registers.proofs.Lending.{room-for-all, words-put-are-loaded}
 use Rattle.registers.specs.Loading.{load, word_entries, too_short, put_entries}

@@ -5,7 +5,8 @@ use Rattle.std.proofs.Common.{sym, ap, ◌∙◌, arith}
 use Prim.Native.Nat.{ℕ, zero, suc, ◌<◌}
 use Rattle.laws.specs.BooleanLaws.{and_both}
 use Rattle.laws.specs.Cases.{◌when◌, lowest, lower}
-use Rattle.laws.specs.CaseLaws.{ascending, lowest-zero-none-holds}
+use Rattle.laws.specs.CaseLaws.{ascending}
+use Rattle.laws.proofs.CaseLaws.{lowest-zero-none-holds}
 use Rattle.laws.specs.Answers.{Answer, accepted, refused, judged, or_else, number_of, and_then, mapped, judged_on, Outcome, leaves, outcome, outcome_on}
 
 -- an accepted call was judged 0, and gives the value

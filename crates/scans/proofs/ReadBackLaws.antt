@@ -6,7 +6,7 @@ use Rattle.std.proofs.Common.{arith, le-ltb}
 use Rattle.std.proofs.Math.Nat.{zero-add}
 use Rattle.std.proofs.Math.ListN.{get_or}
 use Rattle.laws.specs.Answers.{accepted}
-use Rattle.laws.specs.AnswerLaws.{one-accepts}
+use Rattle.laws.proofs.AnswerLaws.{one-accepts}
 use Rattle.laws.specs.StoringLaws.{length-stores, entry-stored}
 use Rattle.registers.specs.Loading.{too_short}
 use Rattle.scanout.specs.declared.state.State.{State}
