@@ -1,7 +1,25 @@
 // The bench's input (§11.1): its length, and its numbers, stored low byte first.
-ghost use Rattle.std.specs.Prelude.{◌+◌, ◌*◌, ◌<◌, ◌≤◌, ◌≡◌, length};
+ghost use Rattle.std.specs.Prelude.{◌+◌, ◌*◌, ◌<◌, ◌≤◌, ◌≡◌, length, IfOk};
 ghost use Rattle.laws.specs.Storing.{stores};
 ghost use Rattle.bench.specs.Input.{length_refused, low_first};
+
+use std::io;
+use std::io::Read;
+
+// Reads until the buffer is full or the input ends, and answers how many bytes were read.
+pub(crate) fn read_full(input: &mut impl Read, buffer: &mut [u8]) -> io::Result<usize>
+    ensures { IfOk result (λ n. n ≤ length buffer.new) }
+{
+    let mut n = 0;
+    while n < buffer.len() {
+        let got = input.read(&mut buffer[n..])?;
+        if got == 0 {
+            break;
+        }
+        n += got;
+    }
+    Ok(n)
+}
 
 // Whether an input of n bytes is refused with 14 (§11.3). The video words begin at byte 556.
 pub(crate) fn length_refused(n: usize) -> bool

@@ -8,13 +8,12 @@ mod input;
 mod output;
 
 use drawing::row::draw_row;
-use input::{halves, length_refused, words};
+use input::{halves, length_refused, read_full, words};
 use memory::Screen;
 use output::{print_counts, print_refused, print_row};
 use panel::geometry::{height, width};
 use registers::{Loaded, load};
 use std::io;
-use std::io::Read;
 
 // Prints every row. None is refused once the first was accepted: rows differ by their number alone, which stays below the height.
 // A refusal would end the output.
@@ -74,23 +73,22 @@ fn print_video(rt: &impl Print, bytes: &[u8], video: &[u32]) -> io::Result<()>
     }
 }
 
-// From byte 556 on the input holds the video words.
-fn print_input(rt: &impl Print, bytes: &[u8]) -> io::Result<()>
-    requires head { 556 ≤ length bytes.now }
-    requires tail { length bytes.now ≤ 33324 }
+// The first n bytes are the input; from byte 556 on it holds the video words.
+fn print_input(rt: &impl Print, bytes: &[u8], n: usize) -> io::Result<()>
+    requires { (n ≤ length bytes.now) × (556 ≤ n) × (n ≤ 33324) }
 {
     let mut video = [0u32; 8192];
-    let tail = (bytes.len() - 556) / 4;
+    let tail = (n - 556) / 4;
     words(bytes, 556, tail, &mut video);
     print_video(rt, bytes, &video[..tail])
 }
 
-// Reads the longest input and one byte more, so that a longer input is noticed.
+// The buffer holds the longest input and one byte more, so that a longer input is noticed.
 fn main(rt: HostRuntime) -> io::Result<()> {
-    let mut bytes = Vec::new(rt.alloc());
-    rt.reader().take(33325).read_to_end(&mut bytes)?;
-    if length_refused(bytes.len()) {
+    let mut bytes = [0u8; 33325];
+    let n = read_full(&mut rt.reader(), &mut bytes)?;
+    if length_refused(n) {
         return print_refused(&rt, 14);
     }
-    print_input(&rt, &bytes)
+    print_input(&rt, &bytes, n)
 }

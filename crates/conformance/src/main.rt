@@ -21,15 +21,16 @@ use report::{open_group, print_group, print_too_long};
 use std::io::Read;
 use std::rt::Files;
 use std::{env, io};
+use text::read_full;
 
-// A file of more than 65,535 bytes is not run.
-fn run_file(rt: &(impl Print + Alloc), group: &str, file: impl Read + Drop) -> io::Result<()> {
-    let mut text = Vec::new(rt.alloc());
-    file.take(65536).read_to_end(&mut text)?;
-    if text.len() == 65536 {
+// A file that fills the buffer may be longer, so it is not run.
+fn run_file(rt: &impl Print, group: &str, mut file: impl Read + Drop) -> io::Result<()> {
+    let mut text = [0u8; 65536];
+    let n = read_full(&mut file, &mut text)?;
+    if n == 65536 {
         return print_too_long(rt, group);
     }
-    print_group(rt, group, run_lines(rt, group, &text)?)
+    print_group(rt, group, run_lines(rt, group, &text[..n])?)
 }
 
 fn run_group(rt: &(impl Files + Print + Eprint + Alloc), group: &str) -> io::Result<()> {

@@ -1,6 +1,24 @@
 // The text of a vector file: lines, keys, hexadecimal numbers and where they end. Every function is total: a missing number reads as
 // 0, and a position past the text counts as its end.
-ghost use Rattle.std.specs.Prelude.{◌<◌, ◌≤◌, length};
+ghost use Rattle.std.specs.Prelude.{◌<◌, ◌≤◌, length, IfOk};
+
+use std::io;
+use std::io::Read;
+
+// Reads until the buffer is full or the file ends, and answers how many bytes were read.
+pub(crate) fn read_full(file: &mut impl Read, buffer: &mut [u8]) -> io::Result<usize>
+    ensures { IfOk result (λ n. n ≤ length buffer.new) }
+{
+    let mut n = 0;
+    while n < buffer.len() {
+        let got = file.read(&mut buffer[n..])?;
+        if got == 0 {
+            break;
+        }
+        n += got;
+    }
+    Ok(n)
+}
 
 // What a scan stops at; it always stops at the end of the line.
 #[derive(Clone, Copy)]

@@ -49,7 +49,7 @@ pub fn step_in_place(s: &mut State, video: &[u32], palette: &[u16]) -> Clocked
     left.answer
 }
 
-// One step in place of a state in a local. No parameter is a reference to a state, so a caller's proof needs no walk by hand.
+// One step in place of a state in a local: the answer and the state that it leaves.
 pub fn step_local(s: State, video: &[u32], palette: &[u16]) -> Placed
     ensures { placed result ≡ step_in_place s (lending video.now palette.now) }
 {

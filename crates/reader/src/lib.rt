@@ -33,7 +33,7 @@ impl<'a> Reader<'a> {
     }
 }
 
-// One pixel through a reader made for it. No parameter is a reader, so a caller's proof needs no walk by hand.
+// One pixel through a reader made for it, for a caller with a single pixel to ask for.
 pub fn read_pixel(screen: Screen, video: &[u32], palette: &[u16], row: u32, column: u32) -> Drawn
     ensures { drawn_pixel result ≡ draw_pixel screen (lending video.now palette.now) row column }
 {

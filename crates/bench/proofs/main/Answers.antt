@@ -3,12 +3,7 @@ use Rattle.std.proofs.Common.{sym, ◌∙◌, arith}
 use Rattle.bench.proofs.Lengths.{accepted-length}
 use Rattle.bench.proofs.main.Goals as goal
 
-pub print_input-requires-clause-head : goal.print_input-requires-clause-head
-print_input-requires-clause-head c =
+pub print_input-requires : goal.print_input-requires
+print_input-requires c =
     let bounds = accepted-length _ (sym c.length_refused.ensures ∙ c.if-length_refused.false) in
-    omega (arith, bounds.0)
-
-pub print_input-requires-clause-tail : goal.print_input-requires-clause-tail
-print_input-requires-clause-tail c =
-    let bounds = accepted-length _ (sym c.length_refused.ensures ∙ c.if-length_refused.false) in
-    omega (arith, bounds.1)
+    (omega arith, omega (arith, bounds.0), omega (arith, bounds.1))
