@@ -175,7 +175,8 @@ pub fn lower(a: u32, b: u32) -> u32
     if b == 0 {
         return a;
     }
-    if a < b {
+    let first = a < b;
+    if first {
         return a;
     }
     b

@@ -28,7 +28,8 @@ fn edition_pulse(edition: u32, n: u32) -> u32
     ensures value { result ≡ edition_pulse edition n }
     ensures upper_bound { result ≤ 128 }
 {
-    if edition == 2 {
+    let later = edition == 2;
+    if later {
         later_pulse(n)
     } else {
         pulse(n)

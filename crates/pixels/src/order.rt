@@ -17,6 +17,7 @@ pub fn exchange_halves(x: u32) -> u32
 }
 
 // The word after its swap, so that its first pixel is in the highest bits (§4.1).
+#[tactic(auto, unfolding(crate::specs::Order::in_order))]
 pub fn in_order(x: u32, bswp: bool, hwswp: bool) -> u32
     ensures { result ≡ in_order bswp hwswp x }
 {

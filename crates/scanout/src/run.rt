@@ -62,7 +62,8 @@ pub fn run(s: State, video: &[u32], palette: &[u16], clocks: u64, picture: &mut 
         return Ran::Refused(refusal);
     }
     let count = count_of(s, clocks);
-    if count == 0 {
+    let none = count == 0;
+    if none {
         return Ran::Took(0, s);
     }
     let shown = shown_screen(s);

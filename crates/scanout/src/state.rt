@@ -54,7 +54,8 @@ pub fn with_viewport(w: Words, v: Viewport) -> Words
 pub fn shown_words(s: State) -> Words
     ensures { result ≡ shown_words s }
 {
-    if s.position == 0 {
+    let begins = s.position == 0;
+    if begins {
         return with_viewport(s.screen.words, s.pending);
     }
     s.screen.words

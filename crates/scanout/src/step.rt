@@ -35,7 +35,8 @@ pub fn step(s: State, video: &[u32], palette: &[u16]) -> Stepped
     ensures { stepped result ≡ step s (lending video.now palette.now) }
 {
     let refusal = judge_scan(s, video.len(), palette.len(), false);
-    if refusal != 0 {
+    let refused = refusal != 0;
+    if refused {
         return Stepped::Refused(refusal);
     }
     let shown = shown_screen(s);

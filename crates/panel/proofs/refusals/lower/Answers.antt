@@ -12,12 +12,12 @@ returns-then-a-eq0 c = rw c.if-a-eq0.true refl
 pub returns-then-b-eq0 : goal.returns-then-b-eq0
 returns-then-b-eq0 c = rw c.if-b-eq0.true (sym (lower-none c.args.a))
 
-pub returns-then-a-b : goal.returns-then-a-b
-returns-then-a-b c =
+pub returns-then-first : goal.returns-then-first
+returns-then-first c =
     let a = c.args in
     omega (
       arith,
-      c.if-a-b.true,
+      c.if-first.true,
       lower-min a.a a.b (omega (arith, c.if-a-eq0.false)) (omega (arith, c.if-b-eq0.false)),
     )
 
@@ -26,6 +26,6 @@ returns c =
     let a = c.args in
     omega (
       arith,
-      c.if-a-b.false,
+      c.if-first.false,
       lower-min a.a a.b (omega (arith, c.if-a-eq0.false)) (omega (arith, c.if-b-eq0.false)),
     )

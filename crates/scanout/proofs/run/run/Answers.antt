@@ -37,15 +37,15 @@ count_of-count-requires c =
     passed _ _ _ _ lets in
     omega (arith, passes.inside)
 
-pub returns-then-count-eq0 : goal.returns-then-count-eq0
+pub returns-then-none : goal.returns-then-none
 unfolding run after drawn judge_run too_short
-returns-then-count-eq0 c =
+returns-then-none c =
     let judged-is : c.judge_scan-refusal.result ≡ judge_run c.args.s (lending c.args.video.now c.args.palette.now) c.args.picture.now =
     rw c.pixels_of.ensures.value at c.judge_scan-refusal.ensures in
     let lets : judge_run c.args.s (lending c.args.video.now c.args.palette.now) c.args.picture.now ≡ 0 =
     sym judged-is ∙ c.if-refusal-ne0.false in
     let a = c.args in
-    let none : ◌≡◌ {A = ℕ} 0 (count_of a.s a.clocks) = sym c.if-count-eq0.true ∙ c.count_of-count.ensures in
+    let none : ◌≡◌ {A = ℕ} 0 (count_of a.s a.clocks) = sym c.if-none.true ∙ c.count_of-count.ensures in
     ap₂ running
     (gives-answer 0 _ _ _ (sym lets) refl
     (ap (λ (k : ℕ). record { count = k; next = after k a.s }) none))
@@ -101,7 +101,7 @@ returns c =
     (gives-answer 0 _ _ _ (sym lets) refl
     (ap₂ (λ (k : ℕ) (t : State). record { count = k; next = t }) counted
     (c.moved.ensures
-    ∙ sym (after-moved a.s c.count_of-count.result (omega (arith, c.if-count-eq0.false)) fits)
+    ∙ sym (after-moved a.s c.count_of-count.result (omega (arith, c.if-none.false)) fits)
     ∙ ap (λ (k : ℕ). after k a.s) counted)))
     (ap (λ (o : Outcome). o.left)
     (leaves-written _ _ _ _ lets

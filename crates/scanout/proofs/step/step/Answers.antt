@@ -19,13 +19,13 @@ use Rattle.scanout.proofs.Acceptance.{passed}
 use Rattle.scanout.proofs.Views.{shown-timing}
 use Rattle.scanout.proofs.step.step.Goals as goal
 
-pub returns-then-refusal-ne0 : goal.returns-then-refusal-ne0
+pub returns-then-refused : goal.returns-then-refused
 unfolding step judge_step
-returns-then-refusal-ne0 c = gives-refusal _ _ _ c.judge_scan-refusal.ensures c.if-refusal-ne0.true
+returns-then-refused c = gives-refusal _ _ _ c.judge_scan-refusal.ensures c.if-refused.true
 
 pub moved-requires : goal.moved-requires
 moved-requires c =
-    (c.shown_screen-shown.ensures, omega (arith, (passed _ _ _ _ (sym c.judge_scan-refusal.ensures ∙ c.if-refusal-ne0.false)).inside))
+    (c.shown_screen-shown.ensures, omega (arith, (passed _ _ _ _ (sym c.judge_scan-refusal.ensures ∙ c.if-refused.false)).inside))
 
 pub returns : goal.returns
 unfolding step judge_step advance clock_at next_colour spot_at
@@ -38,7 +38,7 @@ returns c =
     ∙ ap₂ (λ (x : Screen) (k : Spot). spot_colour x (lending c.args.video.now c.args.palette.now) k) c.shown_screen-shown.ensures
     (c.spot_of.ensures ∙ ap (λ (p : Parts). spot_of p.line p.clock) parts_are)
     ∙ ap (λ (t : Timing). spot_colour (shown_screen c.args.s) (lending c.args.video.now c.args.palette.now) (spot_at t c.args.s.position)) (shown-timing c.args.s) in
-    gives-answer _ _ _ _ c.judge_scan-refusal.ensures c.if-refusal-ne0.false
+    gives-answer _ _ _ _ c.judge_scan-refusal.ensures c.if-refused.false
     (ap₂ (λ (k : Clock) (t : State). record { clock = k; next = t })
     (c.clock_of.ensures
     ∙ ap₂ (λ (x : Screen) (p : Parts). clock_of x.words p.line p.clock c.spot_colour-colour.result)
