@@ -1,2 +1,2 @@
-// The worked cases T1 to T11 (§13.1), proved about the definitions. They stand in specs/; there is no code here.
+// The worked cases T1 to T11 (§13.1), stated in specs/ about the definitions and proved in proofs/. There is no code here.
 #![tactic(auto)]

@@ -1,2 +1,2 @@
-// Definitions that promises of every layer cite, and general laws. They stand in specs/; there is no code here.
+// Definitions that promises of every layer cite, in specs/, and general laws, there and in proofs/. There is no code here.
 #![tactic(auto)]
