@@ -29,11 +29,7 @@ fn edition_pulse(edition: u32, n: u32) -> u32
     ensures upper_bound { result ≤ 128 }
 {
     let later = edition == 2;
-    if later {
-        later_pulse(n)
-    } else {
-        pulse(n)
-    }
+    if later { later_pulse(n) } else { pulse(n) }
 }
 
 // HCLK ticks of a line.
