@@ -8,6 +8,7 @@ use borrow.Author.Tests.{eqb-true, leb-true}
 use lib.Dec.{eqb, leb}
 use Rattle.laws.specs.BooleanLaws.{both_true}
 use Rattle.laws.specs.ProductLaws.{product_le}
+use Rattle.registers.specs.declared.Words.{Words}
 use Rattle.panel.specs.Geometry.{width, height}
 use Rattle.pixels.specs.Format.{format}
 use Rattle.pixels.specs.declared.format.Format.{Format}
@@ -47,24 +48,18 @@ tested s lent legal bits last is-legal is-bits is_last e =
           );
     }
 
+-- the bits of a row are few
+row-bits : (w : Words) (wide : ℕ) (f : Format) → wide ≡ width w → f ≡ format w → wide * f.bits ≤ 2048 * 32
+row-bits w wide f is-wide is-f = product_le wide 2048 f.bits 32 (omega (arith, is-wide)) (bits-le f (rw is-f (sized-format w)))
+
 pub overflow_mul-bits : goal.overflow_mul-bits
-overflow_mul-bits c =
-    let f = c.format_of-f in
-    let few : c.width.result * f.result.bits ≤ 2048 * 32 =
-    product_le c.width.result 2048 f.result.bits 32 (omega (arith, c.width.ensures))
-    (bits-le f.result (rw f.ensures (sized-format c.args.s.words))) in
-    omega (arith, few)
+overflow_mul-bits c = omega (arith, row-bits _ _ _ c.width.ensures c.format_of-f.ensures)
 
 pub legal-requires : goal.legal-requires
 legal-requires c = rw c.format_of-f.ensures (sized-format c.args.s.words)
 
 pub overflow_add-result : goal.overflow_add-result
-overflow_add-result c =
-    let f = c.format_of-f in
-    let few : c.width.result * f.result.bits ≤ 2048 * 32 =
-    product_le c.width.result 2048 f.result.bits 32 (omega (arith, c.width.ensures))
-    (bits-le f.result (rw f.ensures (sized-format c.args.s.words))) in
-    omega (arith, c.first_word-last.ensures.upper_bound, few)
+overflow_add-result c = omega (arith, c.first_word-last.ensures.upper_bound, row-bits _ _ _ c.width.ensures c.format_of-f.ensures)
 
 pub returns : goal.returns
 returns c on =

@@ -5,6 +5,7 @@ use native.Mathlib.Nat.{mod-lt, mod-le}
 use native.Mathlib.Omega.{arith}
 use Rattle.laws.specs.ProductLaws.{product_le}
 use Rattle.laws.specs.StoringLaws.{left-length}
+use Rattle.registers.specs.declared.Words.{Words}
 use Rattle.panel.specs.Geometry.{width, height}
 use Rattle.pixels.specs.Format.{format}
 use Rattle.pixels.specs.declared.format.Format.{Format}
@@ -31,6 +32,9 @@ module _ (f : Format) (g : Format) (n : ℕ) (e : f ≡ g) (l : Legal g) where
   tail-le : n * f.bits % 32 / f.bits ≤ n
   tail-le = rw tail-is (mod-le _ _)
 
+pixels-le : (w : Words) → width w * height w ≤ 2048 * 1024
+pixels-le w = product_le (width w) 2048 (height w) 1024 (omega arith) (omega arith)
+
 pub to_next_word-requires : goal.to_next_word-requires
 to_next_word-requires c =
     let l = legal _ _ 0 c.format_of-f.ensures c.requires.0.legal in (
@@ -44,10 +48,8 @@ draw_few-requires c = (omega arith, omega arith)
 
 pub overflow_mul-tail : goal.overflow_mul-tail
 overflow_mul-tail c =
-    let w = c.args.s.words in
-    let small : c.args.first + c.args.count ≤ 2097152 =
-    omega (arith, c.requires.1, product_le (width w) 2048 (height w) 1024 (omega arith) (omega arith)) in
-    let few : (c.args.count - c.least-head.result) * c.format_of-f.result.bits ≤ 2097152 * 32 =
+    let few = pixels-le c.args.s.words in
+    let bits : (c.args.count - c.least-head.result) * c.format_of-f.result.bits ≤ 2097152 * 32 =
     product_le _ 2097152 _ 32 (omega arith) (bits-le _ (legal _ _ 0 c.format_of-f.ensures c.requires.0.legal).stores.sized) in
     omega arith
 
@@ -56,9 +58,7 @@ nonzero_div-tail c = (legal _ _ 0 c.format_of-f.ensures c.requires.0.legal).stor
 
 pub overflow_add-first : goal.overflow_add-first
 overflow_add-first c =
-    let w = c.args.s.words in
-    let small : c.args.first + c.args.count ≤ 2097152 =
-    omega (arith, c.requires.1, product_le (width w) 2048 (height w) 1024 (omega arith) (omega arith)) in
+    let few = pixels-le c.args.s.words in
     omega arith
 
 pub overflow_sub-rest-2 : goal.overflow_sub-rest-2
@@ -91,9 +91,7 @@ overflow_sub-count c =
 
 pub overflow_add-first-2 : goal.overflow_add-first-2
 overflow_add-first-2 c =
-    let w = c.args.s.words in
-    let small : c.args.first + c.args.count ≤ 2097152 =
-    omega (arith, c.requires.1, product_le (width w) 2048 (height w) 1024 (omega arith) (omega arith)) in
+    let few = pixels-le c.args.s.words in
     let tail-le = tail-le _ _ (c.args.count - c.least-head.result) c.format_of-f.ensures c.requires.0.legal in
     omega arith
 

@@ -1,6 +1,6 @@
 -- `drawing::picture::draw_rows` meets its contract: a row a turn.
 use mathlib.Core.Path.{◌≡◌, refl, ◌∙◌, subst}
-use Prim.Native.Nat.{ℕ, min, ◌+◌, ◌-◌, ◌∣◌}
+use Prim.Native.Nat.{ℕ, min, ◌+◌, ◌-◌, ◌*◌, ◌<◌, ◌≤◌, ◌∣◌}
 use native.Mathlib.Nat.{div-le_self, dvd-zero, dvd-sub, dvd-mod_iff}
 use native.Mathlib.Omega.{arith}
 use Rattle.laws.specs.ProductLaws.{product_le}
@@ -13,13 +13,20 @@ use Rattle.memory.specs.declared.Screen.{Screen}
 use Rattle.drawing.specs.Core.{per_word, ByRows}
 use Rattle.drawing.proofs.Parts.{dvd-min, part-lent}
 use Rattle.drawing.proofs.Numbers.{colour-is, in_order}
-use Rattle.drawing.proofs.Rows.{begin, Turn, some, one-row, few, next, its-row, its-column}
+use Rattle.drawing.proofs.Rows.{begin, Standing, Turn, some, one-row, few, next, its-row, its-column}
 use Rattle.drawing.proofs.picture.draw_rows.Goals as goal
 
 -- a turn draws whole words of the row
 turn-whole : (s : Screen) (lent column left n : ℕ) → ByRows s lent → n ≡ min (width s.words - column) left
     → per_word (format s.words) ∣ column → per_word (format s.words) ∣ left → per_word (format s.words) ∣ n
 turn-whole s lent column left n rows takes begins whole = rw takes (dvd-min _ _ _ (dvd-sub _ rows.whole begins) whole)
+
+-- the turn that the loop takes, by the width that was read
+turn : (wide high first count done row column n read : ℕ) → first + count ≤ wide * high
+    → Standing wide high first count done row column → done < count → read ≡ wide → n ≡ min (read - column) (count - done)
+    → Turn wide high first count done row column n
+turn wide high first count done row column n read fits standing more is takes =
+    record { fits = fits; standing = standing; more = more; takes = rw (← is) takes }
 
 pub overflow_cast-row : goal.overflow_cast-row
 overflow_cast-row c =
@@ -46,14 +53,7 @@ overflow_sub-wide c = omega (arith, c.width-wide.ensures, c.loop-done.invariant.
 
 pub draw_columns-requires : goal.draw_columns-requires
 draw_columns-requires c =
-    let w = c.args.s.words in
-    let t : Turn (width w) (height w) c.args.first c.args.count c.loop-done.done c.loop-done.row c.loop-done.column c.least-n.result =
-    record {
-      fits = c.requires.2;
-      standing = c.loop-done.invariant.0;
-      more = c.loop-done-test.true;
-      takes = rw (← c.width-wide.ensures) c.least-n.ensures;
-    } in
+    let t = turn _ _ _ _ _ _ _ _ _ c.requires.2 c.loop-done.invariant.0 c.loop-done-test.true c.width-wide.ensures c.least-n.ensures in
     let at = c.loop-done in
     let begins = at.invariant.2 (omega arith) in
     let whole = turn-whole _ _ _ _ _ c.requires.0 t.takes begins at.invariant.3 in (
@@ -79,14 +79,7 @@ draw_columns-requires c =
 
 pub overflow_add-done : goal.overflow_add-done
 overflow_add-done c =
-    let w = c.args.s.words in
-    let t : Turn (width w) (height w) c.args.first c.args.count c.loop-done.done c.loop-done.row c.loop-done.column c.least-n.result =
-    record {
-      fits = c.requires.2;
-      standing = c.loop-done.invariant.0;
-      more = c.loop-done-test.true;
-      takes = rw (← c.width-wide.ensures) c.least-n.ensures;
-    } in
+    let t = turn _ _ _ _ _ _ _ _ _ c.requires.2 c.loop-done.invariant.0 c.loop-done-test.true c.width-wide.ensures c.least-n.ensures in
     omega (arith, few _ _ _ _ _ _ _ _ t)
 
 pub overflow_add-row : goal.overflow_add-row
@@ -94,26 +87,12 @@ overflow_add-row c = omega (arith, c.loop-done.invariant.0.row-le)
 
 pub loop-done-smaller : goal.loop-done-smaller
 loop-done-smaller c =
-    let w = c.args.s.words in
-    let t : Turn (width w) (height w) c.args.first c.args.count c.loop-done.done c.loop-done.row c.loop-done.column c.least-n.result =
-    record {
-      fits = c.requires.2;
-      standing = c.loop-done.invariant.0;
-      more = c.loop-done-test.true;
-      takes = rw (← c.width-wide.ensures) c.least-n.ensures;
-    } in
+    let t = turn _ _ _ _ _ _ _ _ _ c.requires.2 c.loop-done.invariant.0 c.loop-done-test.true c.width-wide.ensures c.least-n.ensures in
     omega (arith, some _ _ _ _ _ _ _ _ t, few _ _ _ _ _ _ _ _ t)
 
 pub loop-done-preserved : goal.loop-done-preserved
 loop-done-preserved c =
-    let w = c.args.s.words in
-    let t : Turn (width w) (height w) c.args.first c.args.count c.loop-done.done c.loop-done.row c.loop-done.column c.least-n.result =
-    record {
-      fits = c.requires.2;
-      standing = c.loop-done.invariant.0;
-      more = c.loop-done-test.true;
-      takes = rw (← c.width-wide.ensures) c.least-n.ensures;
-    } in
+    let t = turn _ _ _ _ _ _ _ _ _ c.requires.2 c.loop-done.invariant.0 c.loop-done-test.true c.width-wide.ensures c.least-n.ensures in
     let at = c.loop-done in
     let begins = at.invariant.2 (omega arith) in
     let whole = turn-whole _ _ _ _ _ c.requires.0 t.takes begins at.invariant.3 in

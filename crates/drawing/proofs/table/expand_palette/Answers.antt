@@ -7,7 +7,7 @@ pub loop-i-init : goal.loop-i-init
 loop-i-init c = (omega arith, none-stored _ _ _)
 
 pub overflow_cast-palette : goal.overflow_cast-palette
-overflow_cast-palette c = omega (arith, c.shared_slice_known-in-loop-i-1.given c.loop-i.i)
+overflow_cast-palette c = omega (arith, c.type_inv.palette c.loop-i.i)
 
 pub loop-i-preserved : goal.loop-i-preserved
 loop-i-preserved c = (omega arith, one_more _ _ _ _ _ c.loop-i.invariant.1 _ _ (omega arith) c.expand.ensures)

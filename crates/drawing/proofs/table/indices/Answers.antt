@@ -22,15 +22,11 @@ none : (f : Format) → looked_up f ≡ false → f.tpalen ≡ false → f.bits 
 none f e off h = true≢false (sym (rw (le-leb f.bits 8 h, off) refl) ∙ e)
 
 pub overflow_shl-result : goal.overflow_shl-result
-overflow_shl-result c =
-    let bits-le : c.args.f.bits ≤ 8 =
-    few c.args.f (sym c.looked_up.ensures ∙ c.if-looked_up.true) in
-    omega (arith, bits-le)
+overflow_shl-result c = omega (arith, few c.args.f (sym c.looked_up.ensures ∙ c.if-looked_up.true))
 
 pub returns-then-looked_up : goal.returns-then-looked_up
 returns-then-looked_up c =
-    let bits-le : c.args.f.bits ≤ 8 =
-    few c.args.f (sym c.looked_up.ensures ∙ c.if-looked_up.true) in
+    let bits-le = few c.args.f (sym c.looked_up.ensures ∙ c.if-looked_up.true) in
     let k = c.args.f.bits in
     (λ off h. shifted k bits-le, omega (arith, shifted k bits-le, pow_mono {j = 8} bits-le))
 

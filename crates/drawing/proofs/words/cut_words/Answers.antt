@@ -18,7 +18,7 @@ loop-i-preserved c =
           (c.cut_24.ensures
           ∙ ap (cut24 c.args.bpp24bl)
           (sym (word-is-pixel c.args.video.now c.args.from i
-          (omega (arith, c.shared_slice_known-in-loop-i-1.given (c.args.from + i)))))),
+          (omega (arith, c.type_inv.video (c.args.from + i)))))),
     )
 
 pub shape_of-out : goal.shape_of-out
