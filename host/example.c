@@ -50,6 +50,12 @@ static void not_counted(const char *what, const uint32_t *words, uint32_t editio
         same(what, counts[i], UNTOUCHED);
 }
 
+/* The same nine words with another LCDCON1. */
+static void other_lcdcon1(uint32_t *out, const uint32_t *words, uint32_t lcdcon1) {
+    memcpy(out, words, 9 * sizeof *out);
+    out[0] = lcdcon1;
+}
+
 /* ---- T1: a panel 1 by 2, 24 bits a pixel; its output is the bench's */
 
 static const uint32_t t1_words[9] = {0x7b, 0x4000, 0, 0, 0, 0x18000000, 4, 2, 0};
@@ -315,8 +321,7 @@ static void stn_duty(void) {
 static void stn_refusals(void) {
     uint32_t fast[9], out = UNTOUCHED;
     uint8_t bytes[2] = {0xaa, 0xaa};
-    memcpy(fast, stn_words, sizeof fast);
-    fast[0] = 0x145;
+    other_lcdcon1(fast, stn_words, 0x145);
     same("STN, CLKVAL 1, check", lcd_check(fast, 9, START, stn_video, 2), 17);
     same("STN, CLKVAL 1", lcd_draw_stn(fast, 9, START, stn_video, 2, 0, bytes, 2), 17);
     same("STN, CLKVAL 1, one byte short", lcd_draw_stn(fast, 9, START, stn_video, 2, 0, bytes, 1), 10);
@@ -333,8 +338,7 @@ static void stn_counts(void) {
     static const uint32_t words[9] = {0x845, 0x3bc000, 0x8270a, 0xd02, 0, 0x18000000, 0x4b00, 0x50, 0};
     static const uint64_t first[3] = {9600, 195840, 306372}, second[3] = {9600, 192000, 312500};
     uint32_t fast[9];
-    memcpy(fast, words, sizeof fast);
-    fast[0] = 0x145;
+    other_lcdcon1(fast, words, 0x145);
     counted("STN, edition 1", words, 1, 60000000, first);
     puts("STN: 816 ticks a line by rule edition 1, 306.372 Hz at 60 MHz");
     counted("STN, edition 2", words, 2, 60000000, second);
@@ -386,8 +390,7 @@ static void load_cut(void) {
 /* Words with video off are stored as any others. */
 static void load_off(void) {
     uint32_t stored[10], off[9];
-    memcpy(off, new_words, sizeof off);
-    off[0] = 0x4007a;
+    other_lcdcon1(off, new_words, 0x4007a);
     store_t9(stored);
     same("load, ENVID 0", lcd_load(stored, 10, off, 9, START, t1_longer, 3, LCD_STORES), 0);
     holds("load, word with ENVID 0", stored, off);
@@ -396,8 +399,7 @@ static void load_off(void) {
 
 static void load_refused(void) {
     uint32_t stored[10], fast[9];
-    memcpy(fast, stn_words, sizeof fast);
-    fast[0] = 0x145;
+    other_lcdcon1(fast, stn_words, 0x145);
     store_t9(stored);
     same("load, one word short", lcd_load(stored, 10, new_words, 9, START, t1_longer, 2, LCD_STORES), 8);
     same("load, one word short, cut at once", lcd_load(stored, 10, new_words, 9, START, t1_longer, 2, 0), 8);

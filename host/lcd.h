@@ -210,8 +210,8 @@ enum { LCD_STORES = 10 };
 #define LCD_STORE_ENTRIES {0, 1, 2, 3, 4, 5, 6, 7, 8, 0}
 
 /* Makes the first `cut` of the ten stores, all of them where `cut` is 10 or more, in the first nine entries of `stored`; further
- * entries stay. The words are stored as given, read-only bits too. They are judged, with the memory, at any `cut`; what `stored` held
- * is not.
+ * entries stay. No bit of a word is dropped, read-only ones neither. The words are judged, with the memory, at any `cut`; what `stored`
+ * held is not.
  * Refuses 10 (fewer than nine entries in `stored` or in `words`), then 1 to 8, 17. */
 uint32_t lcd_load(uint32_t *stored, size_t stored_len, const uint32_t *words, size_t words_len, uint32_t window_start,
                   const uint32_t *video, size_t video_len, uint32_t cut);

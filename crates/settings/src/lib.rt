@@ -19,7 +19,7 @@ fn with_video_off(lcdcon1: u32) -> u32
     lcdcon1 >> 1 << 1
 }
 
-// .. and the word that it stores there: video off first, then the other eight, then LCDCON1 as wanted.
+// .. and the word that it stores there: the first is LCDCON1 with ENVID 0, the last LCDCON1 as wanted.
 fn ten_words(words: &[u32]) -> [u32; 10]
     requires { 9 ≤ length words.now }
     ensures { result ≡ ten_words (nine_words words.now) }

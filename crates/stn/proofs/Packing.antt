@@ -30,6 +30,10 @@ packed_lt g (suc n) = omega (arith, packed_lt g n, bit-lt (g n))
 pub packed-few : (g : ℕ → Bool) (n m : ℕ) → n ≤ m → packed g n < 2 ^ m
 packed-few g n m h = lt_of_lt_of_le (packed_lt g n) (pow_mono h)
 
+-- by another name: a number that packs at most m pixels
+pub packs-few : (g : ℕ → Bool) (n m v : ℕ) → v ≡ packed g n → n ≤ m → v < 2 ^ m
+packs-few g n m v e h = rw e (packed-few g n m h)
+
 pub packed-same : (g h : ℕ → Bool) (n : ℕ) → ((k : ℕ) → k < n → g k ≡ h k) → packed g n ≡ packed h n
 unfolding packed
 packed-same g h zero e = refl

@@ -8,11 +8,18 @@ use lib.Dec.{eqb}
 use Rattle.laws.specs.ProductLaws.{product_le}
 use Rattle.laws.specs.StoringLaws.{none-stored, some_more, so-many-stored, all-stored}
 use Rattle.panel.specs.Geometry.{height}
-use Rattle.stn.specs.Core.{bits_in, bytes_of}
+use Rattle.memory.specs.declared.Screen.{Screen}
+use Rattle.registers.specs.Fields.{pagewidth}
+use Rattle.stn.specs.Core.{ByRows, bits_in, bytes_of, mono}
 use Rattle.stn.specs.Drawing.{row_bytes}
 use Rattle.stn.specs.Greys.{row_byte}
 use Rattle.stn.proofs.FrameBytes.{row-in-frame, byte-of-frame, byte-by-phase}
 use Rattle.stn.proofs.rows.draw_rows.Goals as goal
+
+-- a row's words fill its bytes, by the mode and PAGEWIDTH that were read
+filled : (s : Screen) (lent words : ℕ) (m : Bool) → ByRows s lent → m ≡ mono s.words → words ≡ pagewidth s.words
+    → bytes_of m (words / 2) ≡ row_bytes s.words
+filled s lent words m rows e f = ap₂ (λ (k : Bool) (n : ℕ). bytes_of k (n / 2)) e f ∙ rows.whole
 
 pub loop-row-init : goal.loop-row-init
 loop-row-init c = (omega arith, so-many-stored _ _ _ _ _ (none-stored _ _ _) _ (omega arith))
@@ -29,10 +36,8 @@ overflow_mul-row c =
 pub draw_row-requires : goal.draw_row-requires
 draw_row-requires c =
     let inside : c.loop-row.row < height c.args.s.words = omega (arith, c.loop-row-test.true, c.height-high.ensures) in
-    let filled : bytes_of c.mono-of_mono.result (c.pagewidth.result / 2) ≡ row_bytes c.args.s.words =
-    ap₂ (λ (m : Bool) (n : ℕ). bytes_of m (n / 2)) c.mono-of_mono.ensures c.pagewidth.ensures ∙ c.requires.0.whole in
-    let place : c.loop-row.row * c.row_bytes-bytes.result ≡ c.loop-row.row * row_bytes c.args.s.words =
-    ap (λ (n : ℕ). c.loop-row.row * n) c.row_bytes-bytes.ensures.value in
+    let filled = filled c.args.s _ _ _ c.requires.0 c.mono-of_mono.ensures c.pagewidth.ensures in
+    let place = ap (λ (n : ℕ). c.loop-row.row * n) c.row_bytes-bytes.ensures.value in
     let row = c.loop-row.row in
     let pre = c.requires in (
       omega arith,
@@ -43,10 +48,8 @@ draw_row-requires c =
 
 pub loop-row-preserved : goal.loop-row-preserved
 loop-row-preserved c =
-    let filled : bytes_of c.mono-of_mono.result (c.pagewidth.result / 2) ≡ row_bytes c.args.s.words =
-    ap₂ (λ (m : Bool) (n : ℕ). bytes_of m (n / 2)) c.mono-of_mono.ensures c.pagewidth.ensures ∙ c.requires.0.whole in
-    let place : c.loop-row.row * c.row_bytes-bytes.result ≡ c.loop-row.row * row_bytes c.args.s.words =
-    ap (λ (n : ℕ). c.loop-row.row * n) c.row_bytes-bytes.ensures.value in
+    let filled = filled c.args.s _ _ _ c.requires.0 c.mono-of_mono.ensures c.pagewidth.ensures in
+    let place = ap (λ (n : ℕ). c.loop-row.row * n) c.row_bytes-bytes.ensures.value in
     let a = c.args in
     let row = c.loop-row.row in
     let m = c.mono-of_mono in

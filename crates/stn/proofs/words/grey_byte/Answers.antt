@@ -4,7 +4,7 @@ use Prim.Native.Nat.{◌^◌, ◌<◌}
 use native.Mathlib.Omega.{arith}
 use Rattle.pixels.proofs.PixelOrder.{pixel-bits-lt}
 use Rattle.stn.specs.Greys.{packed}
-use Rattle.stn.proofs.Packing.{packed-few, one-more-packed}
+use Rattle.stn.proofs.Packing.{packs-few, one-more-packed}
 use Rattle.stn.proofs.RowBytes.{bit-looked-up}
 use Rattle.stn.proofs.words.grey_byte.Goals as goal
 
@@ -13,9 +13,7 @@ unfolding packed
 loop-k-init c = (omega arith, refl)
 
 pub overflow_mul-byte : goal.overflow_mul-byte
-overflow_mul-byte c =
-    let few : c.loop-k.byte < 2 ^ 8 = rw c.loop-k.invariant.1 (packed-few _ c.loop-k.k 8 c.loop-k.invariant.0) in
-    omega (arith, few)
+overflow_mul-byte c = omega (arith, packs-few _ _ 8 _ c.loop-k.invariant.1 c.loop-k.invariant.0)
 
 pub bounds-patterns-phase : goal.bounds-patterns-phase
 bounds-patterns-phase c = omega (arith, c.requires.1.size)
@@ -26,9 +24,7 @@ overflow_shr-byte c =
     omega (arith, level-lt)
 
 pub overflow_add-byte-in-loop-k : goal.overflow_add-byte-in-loop-k
-overflow_add-byte-in-loop-k c =
-    let few : c.loop-k.byte < 2 ^ 8 = rw c.loop-k.invariant.1 (packed-few _ c.loop-k.k 8 c.loop-k.invariant.0) in
-    omega (arith, few)
+overflow_add-byte-in-loop-k c = omega (arith, packs-few _ _ 8 _ c.loop-k.invariant.1 c.loop-k.invariant.0)
 
 pub loop-k-preserved : goal.loop-k-preserved
 loop-k-preserved c =
@@ -40,9 +36,7 @@ loop-k-preserved c =
     )
 
 pub overflow_cast-result : goal.overflow_cast-result
-overflow_cast-result c =
-    let few : c.loop-k.byte < 2 ^ 8 = rw c.loop-k.invariant.1 (packed-few _ c.loop-k.k 8 c.loop-k.invariant.0) in
-    omega (arith, few)
+overflow_cast-result c = omega (arith, packs-few _ _ 8 _ c.loop-k.invariant.1 c.loop-k.invariant.0)
 
 pub returns : goal.returns
 returns c = c.loop-k.invariant.1 ∙ ap (packed _) (omega arith)
