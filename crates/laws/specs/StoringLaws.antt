@@ -1,7 +1,10 @@
 -- Laws of storing into a lent slice: entry by entry, and of a loop that stores one entry a turn or lets another function store some.
 -- A reader need not believe them.
-use Rattle.std.specs.Prelude.{List, ◌≡◌, refl, ℕ, zero, suc, ◌+◌, ◌<◌, ◌≤◌, length, set, get_or}
-use Rattle.std.proofs.Common.{ap, ◌∙◌, add_assoc, add-suc, add-zero, add-one, arith, get_or-set_same, get_or-set_other}
+use Rattle.std.specs.Prelude.{List, ◌≡◌, refl, ℕ, zero, suc, ◌+◌, ◌-◌, ◌<◌, ◌≤◌, ◌⊎◌, ◌++◌, length, drop, set, get_or}
+use Rattle.std.proofs.Common.{inl, inr, ⊎_elim, subst, sym, length-append, length-drop, ap, ◌∙◌, add_assoc, add-suc, add-zero, add-one, arith, get_or-set_same, get_or-set_other}
+use Rattle.std.proofs.lemmas.List.{ext_get_or, get_or_append_left, get_or-append_right, get_or-drop}
+use Rattle.std.proofs.lemmas.Bool.{cases_lt}
+use Rattle.std.proofs.Math.Nat.{zero-add}
 use Rattle.std.proofs.Math.Decide.{ℕ_discrete}
 use Rattle.std.proofs.Math.ListN.{length-set}
 use Rattle.laws.specs.Storing.{stores}
@@ -37,6 +40,41 @@ entry-stored g at (suc n) d i room h = go (ℕ_discrete i n) (λ l. entry-stored
         rw e (get_or-set_same (stores g at n d) (at + n) (g n) 0 (omega (arith, length-stores g at n d)))
     go (no ne) below =
         get_or-set_other (stores g at n d) (at + n) (at + i) (g n) 0 (λ e. ne (omega arith)) ∙ below (omega arith)
+
+-- a slice with such entries, the others as they were
+pub stored-entries : (g : ℕ → ℕ) (at n : ℕ) (d s : List ℕ) → at + n ≤ length d → length s ≡ length d
+    → ((i : ℕ) → i < n → get_or s (at + i) 0 ≡ g i)
+    → ((j : ℕ) → (j < at) ⊎ (at + n ≤ j) → get_or s j 0 ≡ get_or d j 0) → s ≡ stores g at n d
+stored-entries g at n d s room size inside outside =
+    ext_get_or 0 s (stores g at n d) (size ∙ sym (length-stores g at n d)) (λ j h. each j (cases_lt j at) (cases_lt j (at + n)))
+  where
+    beyond : (j : ℕ) → (j < at) ⊎ (at + n ≤ j) → get_or s j 0 ≡ get_or (stores g at n d) j 0
+    beyond j o =
+        let out : (i : ℕ) → i < n → j ≡ at + i → ⊥ = λ i h e. ⊎_elim (λ l. omega arith) (λ l. omega arith) o in
+        outside j o ∙ sym (entry-outside g at n d j out)
+
+    each : (j : ℕ) → (j < at) ⊎ (at ≤ j) → (j < at + n) ⊎ (at + n ≤ j) → get_or s j 0 ≡ get_or (stores g at n d) j 0
+    each j (inl u) o = beyond j (inl u)
+    each j (inr l) (inr u) = beyond j (inr u)
+    each j (inr l) (inl u) =
+        let e : at + (j - at) ≡ j = omega arith in
+        let k : j - at < n = omega arith in
+        subst (λ (m : ℕ). get_or s m 0 ≡ get_or (stores g at n d) m 0) e
+        (inside (j - at) k ∙ sym (entry-stored g at n d (j - at) room k))
+
+-- numbers in front of the rest
+pub stored-front : (xs d : List ℕ) → length xs ≤ length d → xs ++ drop (length xs) d ≡ stores (λ i. get_or xs i 0) 0 (length xs) d
+stored-front xs d room =
+    stored-entries (λ i. get_or xs i 0) 0 (length xs) d (xs ++ drop (length xs) d) (omega arith)
+    (omega (arith, length-append xs (drop (length xs) d), length-drop (length xs) d))
+    (λ i h. rw zero-add (get_or_append_left xs (drop (length xs) d) 0 i h))
+    (λ j o. ⊎_elim (λ l. absurd (omega arith)) (λ l. rest j (omega (arith, l))) o)
+  where
+    rest : (j : ℕ) → length xs ≤ j → get_or (xs ++ drop (length xs) d) j 0 ≡ get_or d j 0
+    rest j l =
+        let e : length xs + (j - length xs) ≡ j = omega arith in
+        get_or-append_right xs (drop (length xs) d) (length xs) j 0 refl l ∙ get_or-drop (length xs) d (j - length xs) 0
+        ∙ ap (λ (m : ℕ). get_or d m 0) e
 
 -- ---- the same entries, and more of them
 

@@ -5,7 +5,9 @@ use Prim.Native.Nat.{ℕ, ◌<◌, ◌≤◌}
 use native.Mathlib.Nat.{zero-add}
 use native.Mathlib.Omega.{arith}
 use borrow.Author.Tests.{le-ltb}
-use lib.ListN.{length, get_or}
+use lib.Dec.{lit<}
+use lib.ListN.{length, get_or, take}
+use Rattle.std.proofs.Common.{get_or-take}
 use Rattle.laws.specs.Answers.{accepted, leaves}
 use Rattle.laws.proofs.AnswerLaws.{leaves-written, one-accepts}
 use Rattle.laws.proofs.CaseLaws.{none-of-one}
@@ -16,6 +18,13 @@ use Rattle.registers.specs.declared.Words.{Words}
 pub room-for-all : (numbers out : List ℕ) → length numbers ≤ length out → put_entries numbers out ≡ leaves 0 (begun_with numbers out)
 unfolding put_entries too_short
 room-for-all numbers out room = sym (leaves-written _ _ _ _ (none-of-one 10 _ (le-ltb _ _ room)) refl)
+
+-- the front of a slice has the same nine words
+pub front-nine : (s : List ℕ) → nine_words (take 9 s) ≡ nine_words s
+front-nine s = rw (at 0 (lit< tt), at 1 (lit< tt), at 2 (lit< tt), at 3 (lit< tt), at 4 (lit< tt)) (rw (at 5 (lit< tt), at 6 (lit< tt), at 7 (lit< tt), at 8 (lit< tt)) refl)
+  where
+    at : (i : ℕ) → i < 9 → get_or (take 9 s) i 0 ≡ get_or s i 0
+    at i h = get_or-take 9 s i 0 h
 
 pub nine-loaded : (slice : List ℕ) → 9 ≤ length slice → load slice ≡ accepted (nine_words slice)
 unfolding load too_short short_of_nine

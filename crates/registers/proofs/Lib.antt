@@ -1,3 +1,4 @@
 pub mod Examples
 pub mod Lending
 pub mod Tiling
+pub mod Refusals

@@ -1,3 +1,4 @@
 pub mod Layouts
 pub mod Fields
 pub mod Loading
+pub mod Refusals

@@ -1,17 +1,10 @@
 -- The nine words in a lent slice (§1.1, §10.1), and numbers put into one; 10 where a slice has too few entries (§9.1). Promises cite
 -- it, so a reader must believe it.
 use Rattle.std.specs.Prelude.{Bool, List, [], ◌∷◌, ℕ, ltb, length, get_or}
-use Rattle.laws.specs.Answers.{Answer, accepted, refused, judged, Outcome, outcome}
+use Rattle.laws.specs.Answers.{Answer, judged, Outcome, outcome}
 use Rattle.laws.specs.Cases.{◌when◌, lowest}
 use Rattle.laws.specs.Storing.{stores}
-use Rattle.registers.specs.declared.Loaded.{Loaded}
-use Rattle.registers.specs.declared.Loaded.TheVariants.{Nine, Refused}
 use Rattle.registers.specs.declared.Words.{Words}
-
--- the answer as a value or the number of a refusal
-abbrev pub loaded : Loaded → Answer Words
-loaded (Nine w) = accepted w
-loaded (Refused n) = refused n
 
 -- the words in their order (§1.1)
 abbrev pub nine_words : List ℕ → Words

@@ -1,16 +1,19 @@
--- `registers::load` meets its contract: the test on the length is the condition of refusal 10.
-use borrow.Author.Tests.{lt-ltb, le-ltb}
-use mathlib.Core.Path.{refl}
-use lib.Dec.{lit<}
-use Rattle.laws.proofs.AnswerLaws.{one-refuses, one-accepts}
-use Rattle.registers.specs.Loading.{load, too_short, short_of_nine}
+-- `registers::load` meets its contract: the chunk is there where the slice is not too short, and holds its first words.
+use Rattle.std.proofs.Common.{sym, ap, ◌∙◌}
+use Rattle.std.proofs.Math.Dec.{lit<}
+use Rattle.std.proofs.lemmas.Bool.{lt-ltb}
+use Rattle.laws.specs.Answers.{accepted}
+use Rattle.laws.proofs.AnswerLaws.{one-refuses}
+use Rattle.registers.specs.Loading.{nine_words, load, too_short, short_of_nine}
+use Rattle.registers.proofs.Lending.{front-nine, nine-loaded}
 use Rattle.registers.proofs.load.Goals as goal
 
-pub returns-then-words-lt9 : goal.returns-then-words-lt9
+pub returns-in_default : goal.returns-in_default
 unfolding load too_short short_of_nine
-returns-then-words-lt9 c = one-refuses 10 _ _ (lit< tt) (lt-ltb _ _ c.if-words-lt9.true)
+returns-in_default c = one-refuses 10 _ _ (lit< tt) (lt-ltb _ _ c.in_default.ensures.cases)
 
 pub returns : goal.returns
-unfolding load too_short short_of_nine
 returns c =
-    one-accepts 10 _ _ _ (le-ltb _ _ c.if-words-lt9.false) refl
+    let chunk = c.in-Some.ensures.cases in
+    let words = c.args.words.now in
+    ap accepted (c.from.ensures ∙ ap nine_words chunk.same ∙ front-nine words) ∙ sym (nine-loaded words chunk.enough)

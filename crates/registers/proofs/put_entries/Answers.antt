@@ -1,29 +1,24 @@
--- `registers::put_entries` meets its contract: one number a turn.
-use mathlib.Core.Path.{refl, sym, ap, ◌∙◌}
-use native.Mathlib.Omega.{arith}
-use borrow.Author.Tests.{lt-ltb}
+-- `registers::put_entries` meets its contract: the numbers stand in front of what `out` held.
+use Rattle.std.proofs.Common.{List, ℕ, ◌++◌, drop, length, sym, arith, ap, ◌∙◌}
+use Rattle.std.proofs.lemmas.Bool.{ltb-false}
 use Rattle.laws.specs.Answers.{leaves}
-use Rattle.laws.proofs.AnswerLaws.{leaves-as-it-was}
-use Rattle.laws.proofs.CaseLaws.{lowest-of-ascending-is-first, stops}
-use Rattle.laws.specs.StoringLaws.{none-stored, one_more, all-stored}
-use Rattle.registers.specs.Loading.{too_short, put_entries}
+use Rattle.laws.specs.Cases.{lower, lowest}
+use Rattle.laws.specs.StoringLaws.{stored-front}
+use Rattle.registers.specs.Loading.{put_entries, too_short}
 use Rattle.registers.proofs.Lending.{room-for-all}
+use Rattle.registers.proofs.Refusals.{not-refused, left-as-it-was}
 use Rattle.registers.proofs.put_entries.Goals as goal
 
-pub returns-then-out-numbers : goal.returns-then-out-numbers
-unfolding put_entries too_short
-returns-then-out-numbers c =
-    leaves-as-it-was 10 _ _ _ (stops _ _ _ _ (lowest-of-ascending-is-first 0 _ tt) (lt-ltb _ _ c.if-out-numbers.true)) (λ z. omega arith)
-
-pub loop-i-init : goal.loop-i-init
-loop-i-init c = (omega arith, none-stored _ _ _)
-
-pub loop-i-preserved : goal.loop-i-preserved
-loop-i-preserved c = (omega arith, one_more _ _ _ _ _ c.loop-i.invariant.1 _ _ (omega arith) refl)
-
-pub shape_of-out : goal.shape_of-out
-shape_of-out c = c.loop-i.invariant.1.size
+pub returns-in_err-refuse_if : goal.returns-in_err-refuse_if
+unfolding put_entries too_short lowest lower
+returns-in_err-refuse_if c =
+    left-as-it-was c.from_residual.result c.in_err-refuse_if.field-0.0 _ _ _ c.from_residual.ensures.1 c.in_err-refuse_if.ensures
 
 pub returns : goal.returns
 returns c =
-    ap (leaves 0) (all-stored _ _ _ _ _ c.loop-i.invariant.1 _ (omega arith)) ∙ sym (room-for-all _ _ c.if-out-numbers.false)
+    let numbers = c.args.numbers.now in
+    let out = c.args.out.now in
+    let room = ltb-false (length out) (length numbers) (not-refused 10 _ c.in_ok-refuse_if.ensures (λ e. omega arith)) in
+    ap (λ (s : List ℕ). leaves 0 (s ++ drop (length numbers) out)) c.copy_from_slice.ensures.after
+    ∙ ap (leaves 0) (stored-front numbers out room)
+    ∙ sym (room-for-all numbers out room)
