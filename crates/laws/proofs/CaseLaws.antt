@@ -7,7 +7,7 @@ use Prim.Native.Nat.{ℕ, zero, suc, min, ◌<◌, ◌≤◌}
 use Rattle.std.proofs.Math.Decide.{ℕ_discrete}
 use Rattle.laws.specs.BooleanLaws.{and_left, and_right, and_both, either_way}
 use Rattle.laws.specs.Cases.{Case, ◌when◌, lower, lowest, and_where}
-use Rattle.laws.specs.CaseLaws.{NoneHolds, ascending, first, through, up_to}
+use Rattle.laws.specs.CaseLaws.{NoneHolds, Passed, ascending, first, through, up_to}
 
 module _ (n : ℕ) (c : Case) (cs : List Case) (t : T (ascending n (c ∷ cs))) where
   rises : n < c.number
@@ -283,3 +283,44 @@ pub further : (r n : ℕ) (cs ds : List Case) → T (up_to n cs) → T (ascendin
     → through r ds ≡ lowest (cs ++ ds)
 further zero n cs ds u t e = through-first n ds t ∙ sym (several-pass zero n cs ds t e refl)
 further (suc r) n cs ds u t e = through-refused r ds ∙ several-refuse (suc r) n cs ds u t e (λ z. omega arith)
+
+-- ---- one condition after another, where a program ends at the first that holds
+
+first-passes : (n : ℕ) (ds rest : List Case) → T (ascending n (ds ++ rest)) → Passed ds → first (ds ++ rest) ≡ first rest
+unfolding first
+first-passes n [] rest t p = refl
+first-passes n (c ∷ ds) rest t p =
+    go c.holds c.number (rises n c (ds ++ rest) t) p.0 (first-passes c.number ds rest (onward n c (ds ++ rest) t) p.1)
+  where
+    go : (b : Bool) (m : ℕ) → n < m → 0 ≡ cond b m 0 → first (ds ++ rest) ≡ first rest
+        → cond b m (first (ds ++ rest)) ≡ first rest
+    go true m h z e = absurd (omega arith)
+    go false m h z e = e
+
+-- an empty front refuses nothing
+pub no-front : 0 ≡ lowest []
+unfolding lowest
+no-front = refl
+
+module _ (cs ds : List Case) (n k : ℕ) (b : Bool) (r : ℕ) where
+  -- past a front of several and the conditions ds, the one numbered k holds
+  pub chain-refuses : (es : List Case) → T (up_to n cs) → T (ascending n (ds ++ (k when b ∷ es))) → 0 ≡ lowest cs → Passed ds
+      → r ≡ cond b k 0 → (r ≡ 0 → ⊥) → r ≡ lowest (cs ++ (ds ++ (k when b ∷ es)))
+  unfolding first
+  chain-refuses es u t z p e ne =
+      go b e
+      ∙ sym (first-passes n ds (k when b ∷ es) t p)
+      ∙ sym (several-pass 0 n cs (ds ++ (k when b ∷ es)) t z refl)
+    where
+      go : (x : Bool) → r ≡ cond x k 0 → r ≡ cond x k (first es)
+      go true q = q
+      go false q = absurd (ne q)
+
+  -- or it is the last one
+  pub chain-ends : T (up_to n cs) → T (ascending n (ds ++ (k when b ∷ []))) → 0 ≡ lowest cs → Passed ds → r ≡ cond b k 0
+      → r ≡ lowest (cs ++ (ds ++ (k when b ∷ [])))
+  unfolding first
+  chain-ends u t z p e =
+      e
+      ∙ sym (first-passes n ds (k when b ∷ []) t p)
+      ∙ sym (several-pass 0 n cs (ds ++ (k when b ∷ [])) t z refl)

@@ -22,6 +22,11 @@ abbrev pub NoneHolds : List Case → Type 0
 NoneHolds [] = Unit
 NoneHolds (c ∷ cs) = (c.holds ≡ false) × NoneHolds cs
 
+-- each was asked in its turn, and none gave its number
+abbrev pub Passed : List Case → Type 0
+Passed [] = Unit
+Passed (c ∷ cs) = (0 ≡ cond c.holds c.number 0) × Passed cs
+
 -- the numbers are n at most
 abbrev pub up_to : ℕ → List Case → Bool
 up_to n [] = true

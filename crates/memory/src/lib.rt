@@ -2,13 +2,14 @@
 #![tactic(auto)]
 
 ghost use Rattle.std.specs.Prelude.{◌≡◌, ◌^◌, ◌<◌};
-ghost use Rattle.laws.specs.Cases.{and_where};
 ghost use Rattle.panel.specs.Refusals.{judge_either};
-ghost use Rattle.memory.specs.Memory.{screen, row_address, outside_memory, judge_memory, judge_stn_memory, judge_check, check, first_word};
+ghost use Rattle.registers.specs.Refusals.{code};
+ghost use Rattle.memory.specs.Memory.{row_address, outside_memory, judge_memory, judge_stn_memory, judge_check, check, first_word};
 
 use panel::geometry::{height, row_offset};
-use panel::refusals::{and_where, clock_too_fast, judge, judge_either, judge_stn};
-use registers::{Loaded, Words, load};
+use panel::refusals::{clock_too_fast, judge, judge_either, judge_stn};
+use registers::refusal::{Refusal, refuse_if};
+use registers::{Words, load};
 
 // What a screen is drawn from beside the lent slices: the nine words, and the byte address of the first lent word (the window start).
 #[derive(Clone, Copy)]
@@ -51,52 +52,40 @@ fn outside_memory(s: Screen, lent: usize) -> bool
     (lent as u64) < (end - window_start) / 4
 }
 
-// Refusal 8 after what 1 to 7 gave.
-fn and_outside(to_7: u32, s: Screen, lent: usize) -> u32
-    requires { to_7 ≡ 0 → judge_either s.words ≡ 0 }
-    ensures { result ≡ and_where to_7 (outside_memory s lent) 8 }
+// The lowest of 1 to 8 whose condition holds (§9.2), where `lent` words are lent, for a call that takes TFT panels.
+pub fn judge_memory(s: Screen, lent: usize) -> Result<(), Refusal>
+    ensures { code result ≡ judge_memory s lent }
 {
-    if to_7 != 0 {
-        return to_7;
-    }
-    if outside_memory(s, lent) {
-        return 8;
-    }
-    0
-}
-
-// The lowest of 1 to 8 whose condition holds, 0 where none does (§9.2), where `lent` words are lent, for a call that takes TFT panels.
-pub fn judge_memory(s: Screen, lent: usize) -> u32
-    ensures { result ≡ judge_memory s lent }
-{
-    and_outside(judge(s.words), s, lent)
+    judge(s.words)?;
+    refuse_if(outside_memory(s, lent), Refusal::OutsideMemory)
 }
 
 // The same for a call that takes STN panels.
-pub fn judge_stn_memory(s: Screen, lent: usize) -> u32
-    ensures { result ≡ judge_stn_memory s lent }
+pub fn judge_stn_memory(s: Screen, lent: usize) -> Result<(), Refusal>
+    ensures { code result ≡ judge_stn_memory s lent }
 {
-    and_outside(judge_stn(s.words), s, lent)
+    judge_stn(s.words)?;
+    refuse_if(outside_memory(s, lent), Refusal::OutsideMemory)
 }
 
-fn check_words(words: Words, window_start: u32, lent: usize) -> u32
-    ensures { result ≡ judge_check (screen words window_start) lent }
+fn judge_check(s: Screen, lent: usize) -> Result<(), Refusal>
+    ensures { code result ≡ judge_check s lent }
 {
-    let s = Screen {
-        words,
-        window_start,
-    };
-    let to_8 = and_outside(judge_either(words), s, lent);
-    and_where(to_8, clock_too_fast(words), 17)
+    judge_either(s.words)?;
+    refuse_if(outside_memory(s, lent), Refusal::OutsideMemory)?;
+    refuse_if(clock_too_fast(s.words), Refusal::ClockTooFast)
 }
 
-// The check, of either panel: 10 first where `words` has fewer than nine entries, then the lowest of 1 to 8, then 17; 0 where none
-// holds.
-pub fn check(words: &[u32], window_start: u32, video: &[u32]) -> u32
-    ensures { result ≡ check words.now window_start video.now }
+// The check, of either panel: 10 first where `words` has fewer than nine entries, then the lowest of 1 to 8, then 17.
+pub fn check(words: &[u32], window_start: u32, video: &[u32]) -> Result<(), Refusal>
+    ensures { code result ≡ check words.now window_start video.now }
 {
-    match load(words) {
-        Loaded::Nine(w) => check_words(w, window_start, video.len()),
-        Loaded::Refused(n) => n,
-    }
+    let words = load(words)?;
+    judge_check(
+        Screen {
+            words,
+            window_start,
+        },
+        video.len(),
+    )
 }

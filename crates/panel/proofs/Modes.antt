@@ -12,6 +12,10 @@ use Rattle.laws.specs.BooleanLaws.{either_way}
 use Rattle.laws.specs.TableLaws.{every, entry-passes}
 use Rattle.registers.specs.Fields.{bppmode, stn}
 use Rattle.registers.specs.declared.Words.{Words}
+use Rattle.registers.specs.declared.refusal.Refusal.{Refusal}
+use Rattle.registers.specs.Refusals.{number, answer}
+use Rattle.std.specs.Prelude.{Result, Ok, Err, is_err}
+use Rattle.std.specs.Result.{result_unwrap_or}
 use Rattle.panel.specs.Geometry.{outside_modes, stored_bits, depth_of, outside_stn_modes, stn_bits, panel_bits}
 
 -- ---- outside
@@ -105,3 +109,12 @@ pub panel-bits-le : (w : Words) → panel_bits w ≤ 32
 unfolding panel_bits
 panel-bits-le w =
     either_way (λ k. k ≤ 32) (stn w) (omega (arith, stn-bits-le (bppmode w))) (stored-bits-le (bppmode w))
+
+-- what a program takes from the answer at a mode
+pub mode-bits : (r : Result ℕ Refusal) (mode : ℕ) → answer r ≡ depth_of mode → result_unwrap_or r 0 ≡ stored_bits mode
+mode-bits (Ok bits) mode e = (accepted-mode mode bits e).1
+mode-bits (Err d) mode e = sym (outside-stores-none mode (refused-mode mode (number d) e))
+
+pub mode-outside : (r : Result ℕ Refusal) (mode : ℕ) → answer r ≡ depth_of mode → is_err r ≡ outside_modes mode
+mode-outside (Ok bits) mode e = sym (accepted-mode mode bits e).0
+mode-outside (Err d) mode e = sym (refused-mode mode (number d) e)

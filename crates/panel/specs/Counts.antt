@@ -2,26 +2,13 @@
 -- the rule edition of its pulses, which 27 judges (§9.3). `frame_ticks` and `frame_millihertz` are a TFT panel's. Promises cite it, so a
 -- reader must believe it.
 use Rattle.std.specs.Prelude.{cond, List, ℕ, ◌+◌, ◌*◌, ◌/◌, ◌^◌, eqb}
-use Rattle.laws.specs.Answers.{Answer, accepted, refused, judged, and_then, mapped}
+use Rattle.laws.specs.Answers.{Answer, judged, and_then, mapped}
 use Rattle.registers.specs.Fields.{clkval, hozval, wlh, wdly, lineblank, stn}
 use Rattle.registers.specs.declared.Words.{Words}
 use Rattle.panel.specs.Geometry.{height}
 use Rattle.panel.specs.Refusals.{accept, judge_timed}
 use Rattle.panel.specs.Timing.{timing, frame_clocks}
-use Rattle.panel.specs.declared.frame.Counted.{Counted}
-use Rattle.panel.specs.declared.frame.Counted.TheVariants.{Frame, Refused as NoFrame}
 use Rattle.panel.specs.declared.frame.Counts.{Counts}
-use Rattle.panel.specs.declared.frame.Rated.{Rated}
-use Rattle.panel.specs.declared.frame.Rated.TheVariants.{Millihertz, Refused as NoRate}
-
--- the answer as a value or the number of a refusal
-abbrev pub counted : Counted → Answer Counts
-counted (Frame c) = accepted c
-counted (NoFrame n) = refused n
-
-abbrev pub rated : Rated → Answer ℕ
-rated (Millihertz m) = accepted m
-rated (NoRate n) = refused n
 
 -- HCLK ticks of a frame: 2 × (CLKVAL+1) for each clock (§6.3)
 unfoldable pub frame_ticks : Words → ℕ

@@ -1,12 +1,10 @@
 -- The panel's size (§2.1), the stored bits of a pixel (§2.2), both on STN (§2.3), and where a row starts in the bank (§3.2). `width` and
 -- `stored_bits` are a TFT panel's. Promises cite it, so a reader must believe it.
 use Rattle.std.specs.Prelude.{Bool, not, cond, ◌&&◌, [], ◌∷◌, ℕ, ◌+◌, ◌-◌, ◌*◌, leb, eqb, get_or}
-use Rattle.laws.specs.Answers.{Answer, accepted, refused, judged}
+use Rattle.laws.specs.Answers.{Answer, judged}
 use Rattle.laws.specs.Cases.{◌when◌, lowest}
 use Rattle.registers.specs.Fields.{hozval, lineval, bppmode, lcdbaseu, pagewidth, offsize, stn}
 use Rattle.registers.specs.declared.Words.{Words}
-use Rattle.panel.specs.declared.geometry.Depth.{Depth}
-use Rattle.panel.specs.declared.geometry.Depth.TheVariants.{Stored, Refused}
 
 -- W pixels in a row, H rows (§2.1)
 abbrev pub width : Words → ℕ
@@ -22,11 +20,6 @@ outside_modes mode = not (leb 8 mode && leb mode 13)
 -- S, the stored bits of a pixel, by BPPMODE; 0 where that is no TFT mode (§2.2)
 unfoldable pub stored_bits : ℕ → ℕ
 stored_bits mode = cond (outside_modes mode) 0 (get_or (1 ∷ 2 ∷ 4 ∷ 8 ∷ 16 ∷ 32 ∷ []) (mode - 8) 0)
-
--- the answer as a value or the number of a refusal
-abbrev pub depth : Depth → Answer ℕ
-depth (Stored bits) = accepted bits
-depth (Refused n) = refused n
 
 -- the stored bits that a BPPMODE selects, or 3 (§2.2)
 unfoldable pub depth_of : ℕ → Answer ℕ

@@ -2,33 +2,20 @@
 // an STN panel, the rule edition. A caller that wants all of them takes the words by `accept`, which judges them once by 1 to 7, asks
 // `judge_timed` (17, 27), and then for each.
 ghost use Rattle.std.specs.Prelude.{◌≡◌};
-ghost use Rattle.registers.specs.Loading.{loaded};
-ghost use Rattle.panel.specs.Counts.{panel_clocks, panel_ticks, panel_millihertz, accept_timed, timed_words, counted, counts, rated, rate};
+ghost use Rattle.registers.specs.Refusals.{answer};
+ghost use Rattle.panel.specs.Counts.{panel_clocks, panel_ticks, panel_millihertz, accept_timed, counts, rate};
 
 use super::refusals::{accept, judge_timed};
 use super::stn_frame::{stn_frame_clocks, stn_frame_ticks};
 use super::timing::{frame_clocks, frame_ticks};
-use registers::{Loaded, Words};
+use registers::Words;
+use registers::refusal::Refusal;
 
 // The length of a frame, in clocks and in HCLK ticks.
 #[derive(Clone, Copy)]
 pub struct Counts {
     pub clocks: u32,
     pub ticks: u64,
-}
-
-// A frame's length, or a refusal's number.
-#[derive(Clone, Copy)]
-pub enum Counted {
-    Frame(Counts),
-    Refused(u32),
-}
-
-// A frame rate in millihertz, or a refusal's number.
-#[derive(Clone, Copy)]
-pub enum Rated {
-    Millihertz(u64),
-    Refused(u32),
 }
 
 // Clocks in a frame, by the panel that PNRMODE selects.
@@ -60,45 +47,30 @@ pub fn panel_millihertz(w: Words, edition: u32, hclk: u32) -> u64
     hclk as u64 * 1000 / panel_ticks(w, edition)
 }
 
-fn timed_words(w: Words, edition: u32) -> Loaded
-    ensures { loaded result ≡ timed_words w edition }
+fn accept_timed(words: &[u32], edition: u32) -> Result<Words, Refusal>
+    ensures { answer result ≡ accept_timed words.now edition }
 {
-    let refusal = judge_timed(w, edition);
-    if refusal != 0 {
-        return Loaded::Refused(refusal);
-    }
-    Loaded::Nine(w)
-}
-
-fn accept_timed(words: &[u32], edition: u32) -> Loaded
-    ensures { loaded result ≡ accept_timed words.now edition }
-{
-    match accept(words) {
-        Loaded::Nine(w) => timed_words(w, edition),
-        Loaded::Refused(n) => Loaded::Refused(n),
-    }
+    let w = accept(words)?;
+    judge_timed(w, edition)?;
+    Ok(w)
 }
 
 // A frame's clocks and HCLK ticks, or a refusal: 10 first where `words` has fewer than nine entries, then 1 to 7, then 17, then 27.
-pub fn frame_counts(words: &[u32], edition: u32) -> Counted
-    ensures { counted result ≡ counts words.now edition }
+pub fn frame_counts(words: &[u32], edition: u32) -> Result<Counts, Refusal>
+    ensures { answer result ≡ counts words.now edition }
 {
-    match accept_timed(words, edition) {
-        Loaded::Nine(w) => Counted::Frame(Counts {
-            clocks: panel_clocks(w),
-            ticks: panel_ticks(w, edition),
-        }),
-        Loaded::Refused(n) => Counted::Refused(n),
-    }
+    let w = accept_timed(words, edition)?;
+    Ok(Counts {
+        clocks: panel_clocks(w),
+        ticks: panel_ticks(w, edition),
+    })
 }
 
 // The frame rate in millihertz, rounded down, or a refusal: 10 first where `words` has fewer than nine entries, then 1 to 7, then 17,
 // then 27.
-pub fn frame_rate(words: &[u32], edition: u32, hclk: u32) -> Rated
-    ensures { rated result ≡ rate words.now edition hclk }
+pub fn frame_rate(words: &[u32], edition: u32, hclk: u32) -> Result<u64, Refusal>
+    ensures { answer result ≡ rate words.now edition hclk }
 {
-    match accept_timed(words, edition) {
-        Loaded::Nine(w) => Rated::Millihertz(panel_millihertz(w, edition, hclk)),
-        Loaded::Refused(n) => Rated::Refused(n),
-    }
+    let w = accept_timed(words, edition)?;
+    Ok(panel_millihertz(w, edition, hclk))
 }

@@ -1,16 +1,18 @@
 // The panel's size (§2.1), the stored bits of a pixel (§2.2), both on STN (§2.3), and where a row starts in the bank (§3.2).
 ghost use Rattle.std.specs.Prelude.{◌≡◌};
 ghost use Rattle.registers.specs.Fields.{bppmode};
-ghost use Rattle.panel.specs.Geometry.{width, height, depth, depth_of, stored_bits, pitch, row_offset};
+ghost use Rattle.registers.specs.Refusals.{answer};
+ghost use Rattle.panel.specs.Geometry.{width, height, depth_of, stored_bits, pitch, row_offset};
 ghost use Rattle.panel.specs.Geometry.{stn_width, stn_bits, panel_width, panel_bits};
 
 use registers::Words;
+use registers::refusal::Refusal;
 
-// What a BPPMODE selects: the stored bits of a pixel, or a refusal's number.
+// A pixel's place on the panel.
 #[derive(Clone, Copy)]
-pub enum Depth {
-    Stored(u32),
-    Refused(u32),
+pub struct Place {
+    pub row: u32,
+    pub column: u32,
 }
 
 // Pixels in a row of a TFT panel (§2.1).
@@ -28,18 +30,18 @@ pub fn height(w: Words) -> u32
 }
 
 // The stored bits of a pixel by BPPMODE, or 3 where that is no TFT mode.
-pub fn stored_bits(mode: u32) -> Depth
-    ensures { depth result ≡ depth_of mode }
+pub fn stored_bits(mode: u32) -> Result<u32, Refusal>
+    ensures { answer result ≡ depth_of mode }
 {
     match mode {
-        0..=7 => Depth::Refused(3),
-        8 => Depth::Stored(1),
-        9 => Depth::Stored(2),
-        10 => Depth::Stored(4),
-        11 => Depth::Stored(8),
-        12 => Depth::Stored(16),
-        13 => Depth::Stored(32),
-        14.. => Depth::Refused(3),
+        0..=7 => Err(Refusal::NoSuchMode),
+        8 => Ok(1),
+        9 => Ok(2),
+        10 => Ok(4),
+        11 => Ok(8),
+        12 => Ok(16),
+        13 => Ok(32),
+        14.. => Err(Refusal::NoSuchMode),
     }
 }
 
@@ -47,10 +49,7 @@ pub fn stored_bits(mode: u32) -> Depth
 pub fn bits_of(w: Words) -> u32
     ensures { result ≡ stored_bits (bppmode w) }
 {
-    match stored_bits(w.bppmode()) {
-        Depth::Stored(bits) => bits,
-        Depth::Refused(_) => 0,
-    }
+    stored_bits(w.bppmode()).unwrap_or(0)
 }
 
 // Pixels in a row of an STN panel (§2.3).

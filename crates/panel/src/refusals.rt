@@ -2,17 +2,17 @@
 // its own; `judge` goes through 1 to 7 for a call that takes TFT panels, `judge_stn` for one that takes STN panels, `judge_either` for one
 // that takes both, and `judge_timed` through 17 and 27 (§9.3).
 ghost use Rattle.std.specs.Prelude.{◌≡◌};
-ghost use Rattle.laws.specs.Answers.{judged};
-ghost use Rattle.laws.specs.Cases.{lower, and_where};
+ghost use Rattle.laws.specs.Cases.{lower};
 ghost use Rattle.registers.specs.Fields.{bppmode};
-ghost use Rattle.registers.specs.Loading.{loaded};
+ghost use Rattle.registers.specs.Refusals.{answer, code};
 ghost use Rattle.panel.specs.Geometry.{outside_modes, outside_stn_modes};
 ghost use Rattle.panel.specs.Refusals.{not_tft, not_stn, neither_panel, no_such_mode, swaps_illegal, row_size_wrong, end_differs, past_bank};
 ghost use Rattle.panel.specs.Refusals.{judge_where, judge, judge_either, judge_stn, video_off, accept};
 ghost use Rattle.panel.specs.Refusals.{clock_too_fast, no_such_edition, judge_timed};
 
-use super::geometry::{Depth, height, panel_bits, panel_width, row_offset, stored_bits};
-use registers::{Loaded, Words, load};
+use super::geometry::{height, panel_bits, panel_width, row_offset, stored_bits};
+use registers::refusal::{Refusal, refuse_if};
+use registers::{Words, load};
 
 fn not_tft(w: Words) -> bool
     ensures { result ≡ not_tft w }
@@ -35,10 +35,7 @@ fn neither_panel(w: Words) -> bool
 fn no_tft_mode(w: Words) -> bool
     ensures { result ≡ outside_modes (bppmode w) }
 {
-    match stored_bits(w.bppmode()) {
-        Depth::Stored(_) => false,
-        Depth::Refused(_) => true,
-    }
+    stored_bits(w.bppmode()).is_err()
 }
 
 fn no_stn_mode(w: Words) -> bool
@@ -89,49 +86,36 @@ fn past_bank(w: Words) -> bool
     0x20_0000 < row_offset(w, height(w) - 1) + w.pagewidth() as u64
 }
 
-// One more condition: the refusal so far, or where that is 0 the number if `holds`.
-pub fn and_where(refusal: u32, holds: bool, number: u32) -> u32
-    ensures { result ≡ and_where refusal holds number }
+// The lowest of 1 to 7 whose condition holds (§9.2), for a call that does not take the panel where `other` holds.
+fn judge_where(other: bool, w: Words) -> Result<(), Refusal>
+    ensures { code result ≡ judge_where other w }
 {
-    if refusal != 0 {
-        return refusal;
-    }
-    if holds {
-        return number;
-    }
-    0
-}
-
-// The lowest of 1 to 7 whose condition holds, 0 where none does (§9.2), for a call that does not take the panel where `other` holds.
-fn judge_where(other: bool, w: Words) -> u32
-    ensures { result ≡ judge_where other w }
-{
-    let to_1 = and_where(0, w.reserved_bit(), 1);
-    let to_2 = and_where(to_1, other, 2);
-    let to_3 = and_where(to_2, no_such_mode(w), 3);
-    let to_4 = and_where(to_3, swaps_illegal(w), 4);
-    let to_5 = and_where(to_4, row_size_wrong(w), 5);
-    let to_6 = and_where(to_5, end_differs(w), 6);
-    and_where(to_6, past_bank(w), 7)
+    refuse_if(w.reserved_bit(), Refusal::ReservedBit)?;
+    refuse_if(other, Refusal::OtherPanel)?;
+    refuse_if(no_such_mode(w), Refusal::NoSuchMode)?;
+    refuse_if(swaps_illegal(w), Refusal::IllegalSwap)?;
+    refuse_if(row_size_wrong(w), Refusal::WrongRowSize)?;
+    refuse_if(end_differs(w), Refusal::WrongEnd)?;
+    refuse_if(past_bank(w), Refusal::PastBank)
 }
 
 // 1 to 7, for a call that takes TFT panels.
-pub fn judge(w: Words) -> u32
-    ensures { result ≡ judge w }
+pub fn judge(w: Words) -> Result<(), Refusal>
+    ensures { code result ≡ judge w }
 {
     judge_where(not_tft(w), w)
 }
 
 // 1 to 7, for a call that takes either panel.
-pub fn judge_either(w: Words) -> u32
-    ensures { result ≡ judge_either w }
+pub fn judge_either(w: Words) -> Result<(), Refusal>
+    ensures { code result ≡ judge_either w }
 {
     judge_where(neither_panel(w), w)
 }
 
 // 1 to 7, for a call that takes STN panels.
-pub fn judge_stn(w: Words) -> u32
-    ensures { result ≡ judge_stn w }
+pub fn judge_stn(w: Words) -> Result<(), Refusal>
+    ensures { code result ≡ judge_stn w }
 {
     judge_where(not_stn(w), w)
 }
@@ -151,11 +135,11 @@ pub fn no_such_edition(edition: u32) -> bool
 }
 
 // The judgement of a frame's length by a rule edition, of words that 1 to 7 let pass: 17, then 27, or 0 (§9.3).
-pub fn judge_timed(w: Words, edition: u32) -> u32
-    ensures { result ≡ judge_timed w edition }
+pub fn judge_timed(w: Words, edition: u32) -> Result<(), Refusal>
+    ensures { code result ≡ judge_timed w edition }
 {
-    let to_17 = and_where(0, clock_too_fast(w), 17);
-    and_where(to_17, no_such_edition(edition), 27)
+    refuse_if(clock_too_fast(w), Refusal::ClockTooFast)?;
+    refuse_if(no_such_edition(edition), Refusal::NoSuchEdition)
 }
 
 // Refusal 9 (§9.1): video is off.
@@ -165,40 +149,25 @@ pub fn video_off(w: Words) -> bool
     w.envid() == 0
 }
 
-// The lower of two refusal numbers, where 0 is no refusal.
-pub fn lower(a: u32, b: u32) -> u32
-    ensures { result ≡ lower a b }
+// Of two judgements the one that gives the lower number; one that refuses nothing gives way to the other.
+pub fn lower(a: Result<(), Refusal>, b: Result<(), Refusal>) -> Result<(), Refusal>
+    ensures { code result ≡ lower (code a) (code b) }
 {
-    if a == 0 {
+    let Err(first) = a else {
         return b;
-    }
-    if b == 0 {
+    };
+    let Err(second) = b else {
         return a;
-    }
-    let first = a < b;
-    if first {
-        return a;
-    }
-    b
-}
-
-fn accept_words(w: Words) -> Loaded
-    ensures { loaded result ≡ judged (judge_either w) w }
-{
-    let refusal = judge_either(w);
-    if refusal != 0 {
-        return Loaded::Refused(refusal);
-    }
-    Loaded::Nine(w)
+    };
+    Err(first.min(second))
 }
 
 // The nine words that a slice begins with, of either panel, or a refusal: 10 first where `words` has fewer than nine entries, then 1
 // to 7. Words from here need not be judged by these again.
-pub fn accept(words: &[u32]) -> Loaded
-    ensures { loaded result ≡ accept words.now }
+pub fn accept(words: &[u32]) -> Result<Words, Refusal>
+    ensures { answer result ≡ accept words.now }
 {
-    match load(words) {
-        Loaded::Nine(w) => accept_words(w),
-        Loaded::Refused(n) => Loaded::Refused(n),
-    }
+    let w = load(words)?;
+    judge_either(w)?;
+    Ok(w)
 }

@@ -1,8 +1,11 @@
 -- Laws of refusals, and of a call that ends by `?`: it answers with the refusal that another call gave. A reader need not believe them.
-use Rattle.std.specs.Prelude.{◌≡◌, ℕ, Bool, true, false, cond, List, Result, Ok, Err}
+use Rattle.std.specs.Prelude.{◌≡◌, ℕ, Bool, true, false, cond, List, ◌∷◌, ◌++◌, T, Result, Ok, Err}
 use Rattle.std.specs.Result.{IsErrAnd}
 use Rattle.std.proofs.Common.{refl, sym, ap, ◌∙◌, arith}
 use Rattle.laws.specs.Answers.{Answer, refused, judged, and_then, judged_on, mapped, Outcome, leaves, outcome, outcome_on}
+use Rattle.laws.specs.Cases.{Case, ◌when◌, lowest}
+use Rattle.laws.specs.CaseLaws.{Passed, ascending, up_to}
+use Rattle.laws.proofs.CaseLaws.{chain-refuses, several-refuse}
 use Rattle.laws.proofs.AnswerLaws.{gives-refusal, passes_on, passes-number, maps-refusal, leaves-as-it-was, leaves-on}
 use Rattle.registers.specs.declared.refusal.Refusal.{Refusal}
 use Rattle.registers.specs.declared.refusal.Refusal.TheVariants.{ReservedBit, OtherPanel, NoSuchMode, IllegalSwap, WrongRowSize, WrongEnd, PastBank, OutsideMemory, VideoOff, WrongLength, OutsidePanel, FieldTooWide, OtherBank, InputLength, PastFrame, ClockTooFast, NoSuchEdition}
@@ -75,3 +78,14 @@ number-passes r e x f g p = exit-code r e g ∙ passes-number x f (number e) p
 pub outcome-passes : {A B : Type 0} (r : Result B Refusal) (e : Refusal) (x : Answer A) (was : List ℕ) (f : A → Outcome)
     → IsErrAnd r (λ y. y ≡ e) → refused (number e) ≡ x → leaves (code r) was ≡ outcome_on x was f
 outcome-passes r e x was f g p = ap (λ (k : ℕ). leaves k was) (exit-code r e g) ∙ leaves-on x was f (number e) p
+
+-- a judgement that ends at the condition numbered k, past a front of several and the conditions ds
+pub exits : {A : Type 0} (r : Result A Refusal) (e : Refusal) → IsErrAnd r (λ y. y ≡ e) → (cs ds es : List Case) (n k : ℕ) (b : Bool)
+    → T (up_to n cs) → T (ascending n (ds ++ (k when b ∷ es))) → 0 ≡ lowest cs → Passed ds → number e ≡ cond b k 0
+    → code r ≡ lowest (cs ++ (ds ++ (k when b ∷ es)))
+exits r e g cs ds es n k b u t z p h = exit-code r e g ∙ chain-refuses cs ds n k b (number e) es u t z p h (number-some e)
+
+-- or in the front
+pub exits-in-front : {A : Type 0} (r : Result A Refusal) (e : Refusal) → IsErrAnd r (λ y. y ≡ e) → (cs ds : List Case) (n : ℕ)
+    → T (up_to n cs) → T (ascending n ds) → number e ≡ lowest cs → code r ≡ lowest (cs ++ ds)
+exits-in-front r e g cs ds n u t h = exit-code r e g ∙ several-refuse (number e) n cs ds u t h (number-some e)

@@ -1,19 +1,14 @@
 -- `memory::check` meets its contract.
-use mathlib.Core.Path.{sym, ap, ◌∙◌}
-use Rattle.laws.proofs.AnswerLaws.{judges-on, passes-number}
-use Rattle.registers.specs.Loading.{loaded}
+use Rattle.laws.proofs.AnswerLaws.{judges-on}
+use Rattle.registers.proofs.Refusals.{number-passes}
 use Rattle.memory.specs.Memory.{check}
 use Rattle.memory.proofs.check.Goals as goal
 
-pub returns-in-Nine : goal.returns-in-Nine
+pub returns-in_err-words : goal.returns-in_err-words
 unfolding check
-returns-in-Nine c =
-    judges-on _ _ c.in-Nine.w _
-    (sym (ap loaded c.in-Nine.is) ∙ c.load.ensures)
-    c.check_words.ensures
+returns-in_err-words c =
+    number-passes c.from_residual.result c.in_err-words.field-0.0 _ _ c.from_residual.ensures.1 c.in_err-words.ensures
 
-pub returns-in-Refused : goal.returns-in-Refused
+pub returns : goal.returns
 unfolding check
-returns-in-Refused c =
-    passes-number _ _ c.in-Refused.n
-    (sym (ap loaded c.in-Refused.is) ∙ c.load.ensures)
+returns c = judges-on _ _ c.in_ok-words.words _ c.in_ok-words.ensures c.judge_check.ensures

@@ -1,21 +1,19 @@
 -- `panel::frame::frame_rate` meets its contract.
-use mathlib.Core.Path.{sym, ap, ◌∙◌}
-use Rattle.laws.proofs.AnswerLaws.{maps, maps-refusal}
-use Rattle.registers.specs.Loading.{loaded}
+use Rattle.laws.proofs.AnswerLaws.{maps}
+use Rattle.registers.proofs.Refusals.{mapped-passes}
 use Rattle.panel.specs.Counts.{accept_timed, rate, panel_millihertz}
 use Rattle.panel.proofs.frame.frame_rate.Goals as goal
 
-pub returns-in-Nine : goal.returns-in-Nine
+pub returns-in_err-w : goal.returns-in_err-w
 unfolding rate
-returns-in-Nine c =
+returns-in_err-w c =
     let args = c.args in
-    maps (λ w. panel_millihertz w args.edition args.hclk) (accept_timed args.words.now args.edition) c.in-Nine.w _
-    (sym (ap loaded c.in-Nine.is) ∙ c.accept_timed.ensures)
-    c.panel_millihertz.ensures
+    mapped-passes c.from_residual.result c.in_err-w.field-0.0 (accept_timed args.words.now args.edition) (λ w. panel_millihertz w args.edition args.hclk)
+    c.from_residual.ensures.1 c.in_err-w.ensures
 
-pub returns-in-Refused : goal.returns-in-Refused
+pub returns : goal.returns
 unfolding rate
-returns-in-Refused c =
+returns c =
     let args = c.args in
-    maps-refusal (λ w. panel_millihertz w args.edition args.hclk) (accept_timed args.words.now args.edition) c.in-Refused.n
-    (sym (ap loaded c.in-Refused.is) ∙ c.accept_timed.ensures)
+    maps (λ w. panel_millihertz w args.edition args.hclk) (accept_timed args.words.now args.edition) c.in_ok-w.w _ c.in_ok-w.ensures
+    (c.panel_millihertz.ensures)

@@ -1,5 +1,4 @@
--- `panel::geometry::stored_bits` meets its contract: a key is a row of the mode table, and the two ranges lie outside it.
--- ---- the two ranges
+-- `panel::geometry::stored_bits` meets its contract: each mode is a row of the table, and the two ranges lie outside it.
 use native.Mathlib.Omega.{arith}
 use lib.Dec.{lit<}
 use Rattle.laws.specs.Answers.{judged}

@@ -1,31 +1,21 @@
--- `panel::refusals::lower` meets its contract.
-use mathlib.Core.Path.{refl, sym}
-use native.Mathlib.Omega.{arith}
+-- `panel::refusals::lower` meets its contract: the order of refusals is that of their numbers.
+use Rattle.std.specs.Prelude.{ℕ}
+use Rattle.std.proofs.Common.{sym, ap, ap₂, ◌∙◌}
 use Rattle.laws.specs.Cases.{lower}
-use Rattle.laws.proofs.CaseLaws.{lower-min, lower-none}
+use Rattle.laws.proofs.CaseLaws.{lower-none}
+use Rattle.registers.specs.Refusals.{number, code}
+use Rattle.registers.proofs.Order.{lesser-number}
 use Rattle.panel.proofs.refusals.lower.Goals as goal
 
-pub returns-then-a-eq0 : goal.returns-then-a-eq0
+pub returns-in_default : goal.returns-in_default
 unfolding lower
-returns-then-a-eq0 c = rw c.if-a-eq0.true refl
+returns-in_default c = sym (ap (λ (n : ℕ). lower n (code c.args.b)) (ap code c.in_default.is))
 
-pub returns-then-b-eq0 : goal.returns-then-b-eq0
-returns-then-b-eq0 c = rw c.if-b-eq0.true (sym (lower-none c.args.a))
-
-pub returns-then-first : goal.returns-then-first
-returns-then-first c =
-    let a = c.args in
-    omega (
-      arith,
-      c.if-first.true,
-      lower-min a.a a.b (omega (arith, c.if-a-eq0.false)) (omega (arith, c.if-b-eq0.false)),
-    )
+pub returns-in_default-b : goal.returns-in_default-b
+returns-in_default-b c = sym (lower-none (number c.in-Err.first)) ∙ sym (ap₂ lower (ap code c.in-Err.is) (ap code c.in_default-b.is))
 
 pub returns : goal.returns
 returns c =
-    let a = c.args in
-    omega (
-      arith,
-      c.if-first.false,
-      lower-min a.a a.b (omega (arith, c.if-a-eq0.false)) (omega (arith, c.if-b-eq0.false)),
-    )
+    ap number c.min.ensures
+    ∙ lesser-number c.in-Err.first c.in-Err-b.second
+    ∙ sym (ap₂ lower (ap code c.in-Err.is) (ap code c.in-Err-b.is))
