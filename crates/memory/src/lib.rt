@@ -80,12 +80,10 @@ fn judge_check(s: Screen, lent: usize) -> Result<(), Refusal>
 pub fn check(words: &[u32], window_start: u32, video: &[u32]) -> Result<(), Refusal>
     ensures { code result ≡ check words.now window_start video.now }
 {
-    let words = load(words)?;
-    judge_check(
-        Screen {
-            words,
-            window_start,
-        },
-        video.len(),
-    )
+    let nine = load(words)?;
+    let s = Screen {
+        words: nine,
+        window_start,
+    };
+    judge_check(s, video.len())
 }

@@ -51,8 +51,7 @@ fn accept_timed(words: &[u32], edition: u32) -> Result<Words, Refusal>
     ensures { answer result ≡ accept_timed words.now edition }
 {
     let w = accept(words)?;
-    judge_timed(w, edition)?;
-    Ok(w)
+    judge_timed(w, edition).and(Ok(w))
 }
 
 // A frame's clocks and HCLK ticks, or a refusal: 10 first where `words` has fewer than nine entries, then 1 to 7, then 17, then 27.
@@ -71,6 +70,6 @@ pub fn frame_counts(words: &[u32], edition: u32) -> Result<Counts, Refusal>
 pub fn frame_rate(words: &[u32], edition: u32, hclk: u32) -> Result<u64, Refusal>
     ensures { answer result ≡ rate words.now edition hclk }
 {
-    let w = accept_timed(words, edition)?;
-    Ok(panel_millihertz(w, edition, hclk))
+    let timed = accept_timed(words, edition)?;
+    Ok(panel_millihertz(timed, edition, hclk))
 }

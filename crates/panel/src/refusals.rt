@@ -4,7 +4,7 @@
 ghost use Rattle.std.specs.Prelude.{◌≡◌};
 ghost use Rattle.laws.specs.Cases.{lower};
 ghost use Rattle.registers.specs.Fields.{bppmode};
-ghost use Rattle.registers.specs.Refusals.{answer, code};
+ghost use Rattle.registers.specs.Refusals.{number, answer, code};
 ghost use Rattle.panel.specs.Geometry.{outside_modes, outside_stn_modes};
 ghost use Rattle.panel.specs.Refusals.{not_tft, not_stn, neither_panel, no_such_mode, swaps_illegal, row_size_wrong, end_differs, past_bank};
 ghost use Rattle.panel.specs.Refusals.{judge_where, judge, judge_either, judge_stn, video_off, accept};
@@ -149,6 +149,14 @@ pub fn video_off(w: Words) -> bool
     w.envid() == 0
 }
 
+// The refusal with the lower number.
+#[tactic(auto, using(registers::proofs::Order::lesser_number))]
+fn lesser(a: Refusal, b: Refusal) -> Refusal
+    ensures { number result ≡ lower (number a) (number b) }
+{
+    a.min(b)
+}
+
 // Of two judgements the one that gives the lower number; one that refuses nothing gives way to the other.
 pub fn lower(a: Result<(), Refusal>, b: Result<(), Refusal>) -> Result<(), Refusal>
     ensures { code result ≡ lower (code a) (code b) }
@@ -159,7 +167,7 @@ pub fn lower(a: Result<(), Refusal>, b: Result<(), Refusal>) -> Result<(), Refus
     let Err(second) = b else {
         return a;
     };
-    Err(first.min(second))
+    Err(lesser(first, second))
 }
 
 // The nine words that a slice begins with, of either panel, or a refusal: 10 first where `words` has fewer than nine entries, then 1
@@ -168,6 +176,5 @@ pub fn accept(words: &[u32]) -> Result<Words, Refusal>
     ensures { answer result ≡ accept words.now }
 {
     let w = load(words)?;
-    judge_either(w)?;
-    Ok(w)
+    judge_either(w).and(Ok(w))
 }

@@ -55,8 +55,8 @@ is-less x y = go (ltb x y) (ltb y x)
     go false false = refl
 
 -- the lesser of two refusals has the lower number
-pub lesser-number : (a b : Refusal) → number (ord_min cmp-value.it a b) ≡ lower (number a) (number b)
-lesser-number a b =
+pub lesser_number : (a b : Refusal) → number (ord_min cmp-value.it a b) ≡ lower (number a) (number b)
+lesser_number a b =
     rw (by-number b a, is-less (number b) (number a)) (go (cases_lt (number b) (number a)) ∙ sym (lower-min (number a) (number b) (some a) (some b)))
   where
     some : (r : Refusal) → 0 < number r

@@ -1,12 +1,12 @@
 -- Laws of refusals, and of a call that ends by `?`: it answers with the refusal that another call gave. A reader need not believe them.
 use Rattle.std.specs.Prelude.{◌≡◌, ℕ, Bool, true, false, cond, List, ◌∷◌, ◌++◌, T, Result, Ok, Err}
-use Rattle.std.specs.Result.{IsErrAnd}
+use Rattle.std.specs.Result.{IsErrAnd, result_and}
 use Rattle.std.proofs.Common.{refl, sym, ap, ◌∙◌, arith}
 use Rattle.laws.specs.Answers.{Answer, refused, judged, and_then, judged_on, mapped, Outcome, leaves, outcome, outcome_on}
 use Rattle.laws.specs.Cases.{Case, ◌when◌, lowest}
 use Rattle.laws.specs.CaseLaws.{Passed, ascending, up_to}
 use Rattle.laws.proofs.CaseLaws.{chain-refuses, several-refuse}
-use Rattle.laws.proofs.AnswerLaws.{gives-refusal, passes_on, passes-number, maps-refusal, leaves-as-it-was, leaves-on}
+use Rattle.laws.proofs.AnswerLaws.{gives-refusal, gives-answer, passes_on, passes-number, maps-refusal, leaves-as-it-was, leaves-on}
 use Rattle.registers.specs.declared.refusal.Refusal.{Refusal}
 use Rattle.registers.specs.declared.refusal.Refusal.TheVariants.{ReservedBit, OtherPanel, NoSuchMode, IllegalSwap, WrongRowSize, WrongEnd, PastBank, OutsideMemory, VideoOff, WrongLength, OutsidePanel, FieldTooWide, OtherBank, InputLength, PastFrame, ClockTooFast, NoSuchEdition}
 use Rattle.registers.specs.Refusals.{number, answer, code}
@@ -55,6 +55,11 @@ exit-answer (Err d) e g = ap (λ (x : Refusal). refused (number x)) g
 pub refused-as : {A : Type 0} (r : Result A Refusal) (e : Refusal) (n : ℕ) (a : A) → IsErrAnd r (λ y. y ≡ e) → number e ≡ n
     → answer r ≡ judged n a
 refused-as r e n a g j = exit-answer r e g ∙ gives-refusal (number e) n a j (number-some e)
+
+-- a judgement with the value that it lets pass
+pub judged-with : {A : Type 0} (r : Result Unit Refusal) (n : ℕ) (a : A) → code r ≡ n → answer (result_and r (Ok a)) ≡ judged n a
+judged-with (Ok u) n a e = gives-answer 0 n a a e refl refl
+judged-with (Err d) n a e = gives-refusal (number d) n a e (number-some d)
 
 -- and leaves in a slice
 pub left-as-it-was : {A : Type 0} (r : Result A Refusal) (e : Refusal) (n : ℕ) (was written : List ℕ) → IsErrAnd r (λ y. y ≡ e)

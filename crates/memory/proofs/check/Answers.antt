@@ -4,11 +4,11 @@ use Rattle.registers.proofs.Refusals.{number-passes}
 use Rattle.memory.specs.Memory.{check}
 use Rattle.memory.proofs.check.Goals as goal
 
-pub returns-in_err-words : goal.returns-in_err-words
+pub returns-in_err-nine : goal.returns-in_err-nine
 unfolding check
-returns-in_err-words c =
-    number-passes c.from_residual.result c.in_err-words.field-0.0 _ _ c.from_residual.ensures.1 c.in_err-words.ensures
+returns-in_err-nine c =
+    number-passes c.from_residual.result c.in_err-nine.field-0.0 _ _ c.from_residual.ensures.1 c.in_err-nine.ensures
 
 pub returns : goal.returns
 unfolding check
-returns c = judges-on _ _ c.in_ok-words.words _ c.in_ok-words.ensures c.judge_check.ensures
+returns c = judges-on _ _ c.in_ok-nine.nine _ c.in_ok-nine.ensures c.judge_check.ensures

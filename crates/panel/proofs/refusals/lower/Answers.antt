@@ -1,10 +1,9 @@
--- `panel::refusals::lower` meets its contract: the order of refusals is that of their numbers.
+-- `panel::refusals::lower` meets its contract.
 use Rattle.std.specs.Prelude.{ℕ}
 use Rattle.std.proofs.Common.{sym, ap, ap₂, ◌∙◌}
 use Rattle.laws.specs.Cases.{lower}
 use Rattle.laws.proofs.CaseLaws.{lower-none}
 use Rattle.registers.specs.Refusals.{number, code}
-use Rattle.registers.proofs.Order.{lesser-number}
 use Rattle.panel.proofs.refusals.lower.Goals as goal
 
 pub returns-in_default : goal.returns-in_default
@@ -15,7 +14,4 @@ pub returns-in_default-b : goal.returns-in_default-b
 returns-in_default-b c = sym (lower-none (number c.in-Err.first)) ∙ sym (ap₂ lower (ap code c.in-Err.is) (ap code c.in_default-b.is))
 
 pub returns : goal.returns
-returns c =
-    ap number c.min.ensures
-    ∙ lesser-number c.in-Err.first c.in-Err-b.second
-    ∙ sym (ap₂ lower (ap code c.in-Err.is) (ap code c.in-Err-b.is))
+returns c = c.lesser.ensures ∙ sym (ap₂ lower (ap code c.in-Err.is) (ap code c.in-Err-b.is))
