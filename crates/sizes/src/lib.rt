@@ -1,15 +1,17 @@
-// The panel's sizes and a frame's counts as plain numbers in lent slices (§10.3). 0 is done; any other answer is the number of a
-// refusal, and then no lent slice changes (§9.5). Here the 12 sizes: the picture and its clock, the parts of a line in clocks, the parts
+// The panel's sizes and a frame's counts as plain numbers in lent slices (§10.3). Refused, a call changes no lent
+// slice (§9.5). Here the 12 sizes: the picture and its clock, the parts of a line in clocks, the parts
 // of a frame in lines; on STN the parts that do not show the picture are 0.
 #![tactic(auto)]
 
 ghost use Rattle.std.specs.Prelude.{◌≡◌};
 ghost use Rattle.laws.specs.Answers.{leaves};
+ghost use Rattle.registers.specs.Refusals.{code};
 ghost use Rattle.sizes.specs.Sizes.{tft_sizes, stn_sizes, sizes, read_sizes_of, read_sizes};
 
 use panel::geometry::{bits_of, height, stn_bits_of, stn_width, width};
 use panel::timing::{frame_lines, line_clocks};
-use registers::{Loaded, Words, load, put_entries};
+use registers::refusal::{Refusal, refuse_if};
+use registers::{Words, load, put_entries};
 
 pub mod counts;
 
@@ -57,22 +59,18 @@ fn sizes_of(w: Words) -> [u32; 12]
     if w.stn() { stn_sizes(w) } else { tft_sizes(w) }
 }
 
-fn read_sizes_of(w: Words, sizes: &mut [u32]) -> u32
-    ensures { leaves result sizes.new ≡ read_sizes_of w sizes.old }
+fn read_sizes_of(w: Words, sizes: &mut [u32]) -> Result<(), Refusal>
+    ensures { leaves (code result) sizes.new ≡ read_sizes_of w sizes.old }
 {
-    if w.reserved_bit() {
-        return 1;
-    }
+    refuse_if(w.reserved_bit(), Refusal::ReservedBit)?;
     put_entries(&sizes_of(w), sizes)
 }
 
 // The 12 sizes to the first 12 entries of `sizes`; the others stay. 10 first where `words` has fewer than nine entries, then 1, then 10
 // where `sizes` has fewer than 12.
-pub fn read_sizes(words: &[u32], sizes: &mut [u32]) -> u32
-    ensures { leaves result sizes.new ≡ read_sizes words.now sizes.old }
+pub fn read_sizes(words: &[u32], sizes: &mut [u32]) -> Result<(), Refusal>
+    ensures { leaves (code result) sizes.new ≡ read_sizes words.now sizes.old }
 {
-    match load(words) {
-        Loaded::Nine(w) => read_sizes_of(w, sizes),
-        Loaded::Refused(n) => n,
-    }
+    let w = load(words)?;
+    read_sizes_of(w, sizes)
 }

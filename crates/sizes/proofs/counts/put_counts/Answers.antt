@@ -1,34 +1,38 @@
 -- `sizes::counts::put_counts` meets its contract.
-use native.Mathlib.Omega.{arith}
-use borrow.Author.Tests.{lt-ltb, le-ltb}
-use mathlib.Core.Path.{sym, ◌∙◌}
-use lib.ListN.{length-set}
-use Rattle.laws.proofs.AnswerLaws.{leaves-as-it-was, leaves-written}
-use Rattle.laws.proofs.CaseLaws.{lowest-of-ascending-is-first, stops}
+use Rattle.std.specs.Prelude.{◌≡◌, List, [], ◌∷◌, ◌++◌, ℕ, length, drop}
+use Rattle.std.proofs.Common.{arith, ◌∙◌, sym, ap}
+use Rattle.std.proofs.lemmas.Bool.{ltb-false}
+use Rattle.laws.specs.StoringLaws.{stored-front}
+use Rattle.laws.proofs.AnswerLaws.{leaves-written}
 use Rattle.laws.specs.Cases.{lowest}
-use Rattle.laws.specs.Storing.{stores}
-use Rattle.panel.specs.Refusals.{judge_timed}
+use Rattle.laws.proofs.CaseLaws.{no-front, chain-refuses}
+use Rattle.registers.proofs.Refusals.{number-some, not-refused, left-as-it-was}
+use Rattle.panel.specs.Refusals.{judge_timed, timed_cases}
 use Rattle.registers.specs.Loading.{too_short}
-use Rattle.sizes.specs.Counts.{put_counts}
+use Rattle.sizes.specs.Counts.{numbers, put_counts}
 use Rattle.sizes.proofs.counts.put_counts.Goals as goal
 
-pub returns-then-counts-lt3 : goal.returns-then-counts-lt3
+pub returns-in_err-refuse_if : goal.returns-in_err-refuse_if
 unfolding put_counts too_short
-returns-then-counts-lt3 c =
-    leaves-as-it-was 10 _ _ _ (stops _ _ _ _ (lowest-of-ascending-is-first 0 _ tt) (lt-ltb _ _ c.if-counts-lt3.true)) (λ z. omega arith)
+returns-in_err-refuse_if c =
+    let refusal = c.in_err-refuse_if.field-0.0 in
+    left-as-it-was c.from_residual.result refusal _ _ _ c.from_residual.ensures.1
+    (chain-refuses [] [] 0 10 _ _ (timed_cases c.args.w c.args.edition) tt tt no-front tt c.in_err-refuse_if.ensures (number-some refusal))
 
-pub returns-then-refusal-ne0 : goal.returns-then-refusal-ne0
+pub returns-in_err-judge_timed : goal.returns-in_err-judge_timed
 unfolding put_counts too_short judge_timed lowest
-returns-then-refusal-ne0 c =
-    let long = le-ltb _ _ c.if-counts-lt3.false in
-    leaves-as-it-was _ _ _ _ (c.judge_timed-refusal.ensures ∙ rw long) c.if-refusal-ne0.true
-
-pub bounds-counts-1 : goal.bounds-counts-1
-bounds-counts-1 c = simp length-set (omega arith)
+returns-in_err-judge_timed c =
+    let short = not-refused 10 _ c.in_ok-refuse_if.ensures (λ z. omega arith) in
+    let exit = c.from_residual-in_err-judge_timed in
+    left-as-it-was exit.result c.in_err-judge_timed.field-0.0 _ _ _ exit.ensures.1 (c.in_err-judge_timed.ensures ∙ rw short)
 
 pub returns : goal.returns
-unfolding put_counts too_short judge_timed lowest stores
+unfolding put_counts too_short judge_timed lowest
 returns c =
-    let long = le-ltb _ _ c.if-counts-lt3.false in
-    leaves-written _ _ _ _ (rw long (sym c.judge_timed-refusal.ensures ∙ c.if-refusal-ne0.false))
-    (rw (c.panel_clocks-clocks.ensures, c.panel_ticks-ticks.ensures, c.panel_millihertz-rate.ensures))
+    let out = c.args.counts.now in
+    let short = not-refused 10 _ c.in_ok-refuse_if.ensures (λ z. omega arith) in
+    let values : (c.panel_clocks-clocks.result ∷ c.panel_ticks-ticks.result ∷ c.panel_millihertz-rate.result ∷ []) ≡ numbers c.args.w c.args.edition c.args.hclk =
+    rw (c.panel_clocks-clocks.ensures, c.panel_ticks-ticks.ensures, c.panel_millihertz-rate.ensures) in
+    leaves-written _ _ _ _ (rw short (sym c.in_ok-judge_timed.ensures))
+    (ap (λ (s : List ℕ). s ++ drop 3 out) (c.copy_from_slice.ensures.after ∙ values)
+    ∙ stored-front (numbers c.args.w c.args.edition c.args.hclk) out (ltb-false (length out) 3 short))

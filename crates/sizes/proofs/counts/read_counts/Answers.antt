@@ -1,18 +1,14 @@
 -- `sizes::counts::read_counts` meets its contract.
-use mathlib.Core.Path.{sym, ap, ◌∙◌}
-use Rattle.laws.proofs.AnswerLaws.{writes-on, leaves-on}
+use Rattle.laws.proofs.AnswerLaws.{writes-on}
+use Rattle.registers.proofs.Refusals.{outcome-passes}
 use Rattle.sizes.specs.Counts.{read_counts}
-use Rattle.registers.specs.Loading.{loaded}
 use Rattle.sizes.proofs.counts.read_counts.Goals as goal
 
-pub returns-in-Nine : goal.returns-in-Nine
+pub returns-in_err-w : goal.returns-in_err-w
 unfolding read_counts
-returns-in-Nine c =
-    writes-on _ _ _ c.in-Nine.w _ (sym (ap loaded c.in-Nine.is) ∙ c.accept.ensures)
-    c.put_counts.ensures
+returns-in_err-w c =
+    outcome-passes c.from_residual.result c.in_err-w.field-0.0 _ _ _ c.from_residual.ensures.1 c.in_err-w.ensures
 
-pub returns-in-Refused : goal.returns-in-Refused
+pub returns : goal.returns
 unfolding read_counts
-returns-in-Refused c =
-    leaves-on _ _ _ c.in-Refused.n
-    (sym (ap loaded c.in-Refused.is) ∙ c.accept.ensures)
+returns c = writes-on _ _ _ c.in_ok-w.w _ c.in_ok-w.ensures c.put_counts.ensures
