@@ -23,40 +23,35 @@ use Rattle.drawing.proofs.Formats.{bits-le, bits-fill, per-word-pos, word-of-bit
 
 -- ---- columns
 
--- what whole words from `from` on show
-abbrev pub words_shown : Format → List ℕ → List ℕ → ℕ → ℕ → ℕ
-words_shown f table memory from j = shown f (λ v. get_or table v 0) (stored_pixel f.bits f.bswp f.hwswp memory from j)
-
-module _ (f : Format) (memory table : List ℕ) (base column n : ℕ) (c : Columns f memory table base column n) where
+module _ (f : Format) (memory : List ℕ) (base column n : ℕ) (c : Columns f memory base column n) where
   q-pos : 0 < per_word f
   q-pos = per-word-pos f.bits c.legal.stores.some (bits-fill f c.legal.stores)
 
+  -- the words before a pixel, and those that the pixels fill
   pub word : (k : ℕ) → k * f.bits / 32 ≡ k / per_word f
   word = word-of-bit f.bits c.legal.stores.some (bits-fill f c.legal.stores)
+
+  pub pixels-of-words : n * f.bits / 32 * per_word f ≡ n
+  pixels-of-words = ap (λ (k : ℕ). k * per_word f) (word n) ∙ div-mul_cancel (per_word f) c.lent.whole
+
+  pub words-lent : base + column * f.bits / 32 + n * f.bits / 32 ≤ length memory
+  words-lent = omega (arith, word n, word column, c.lent.inside)
 
   -- their bits are few
   pub bits-few : (k : ℕ) → k ≤ column + n → k * f.bits ≤ 2048 * 32
   bits-few k h = product_le k 2048 f.bits 32 (omega (arith, c.short)) (bits-le f c.legal.stores.sized)
 
-  pub pixels-of-words : n * f.bits / 32 * per_word f ≡ n
-  pixels-of-words = ap (λ (k : ℕ). k * per_word f) (word n) ∙ div-mul_cancel (per_word f) c.lent.whole
-
-  pub words-lent : n * f.bits / 32 ≤ length memory - (base + column * f.bits / 32)
-  words-lent = omega (arith, word n, word column, c.lent.inside)
-
-  pub columns-drawn : f.tpalen ≡ false → (at : ℕ) (out left : List ℕ)
-      → left ≡ stores (words_shown f table memory (base + column * f.bits / 32)) at (n * f.bits / 32 * per_word f) out
-      → left ≡ columns_stored f table memory base column n at out
-  columns-drawn off at out left e =
-      e ∙ stores_as _ (λ i. row_colour f (λ v. get_or table v 0) memory base (column + i)) at _ n out pixels-of-words (λ j h. its-colour j)
+  -- a pixel of these words by themselves is a pixel of the row
+  pub pixel-of-words : (i m : ℕ) → i < n → m ≡ n * f.bits / 32
+      → stored_pixel f.bits f.bswp f.hwswp (take m (drop (base + column * f.bits / 32) memory)) 0 i
+      ≡ stored_pixel f.bits f.bswp f.hwswp memory base (column + i)
+  pixel-of-words i m h e =
+      pixel-of-part f.bits f.bswp f.hwswp memory (base + column * f.bits / 32) m i inside
+      ∙ ap (λ (k : ℕ). stored_pixel f.bits f.bswp f.hwswp memory (base + k) i) (word column)
+      ∙ from-word f.bits q-pos f.bswp f.hwswp memory base column i (mod-eq-zero_of_dvd (per_word f) (c.begins (omega (arith, h))))
     where
-      its-colour : (j : ℕ)
-          → words_shown f table memory (base + column * f.bits / 32) j ≡ row_colour f (λ v. get_or table v 0) memory base (column + j)
-      its-colour j =
-          ap (shown f (λ v. get_or table v 0))
-          (ap (λ (k : ℕ). stored_pixel f.bits f.bswp f.hwswp memory (base + k) j) (word column)
-          ∙ from-word f.bits q-pos f.bswp f.hwswp memory base column j (mod-eq-zero_of_dvd (per_word f) c.begins))
-          ∙ sym (shown-colour f (λ v. get_or table v 0) memory base (column + j) off)
+      inside : i / per_word f < m
+      inside = (div-lt_iff_lt-mul {k = per_word f} {x = i} {y = m} q-pos).1 (rw (e, pixels-of-words) h)
 
 -- ---- a turn of rows
 
