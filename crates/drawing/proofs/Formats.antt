@@ -4,14 +4,12 @@ use mathlib.Core.List.{List, [], ◌∷◌}
 use mathlib.Core.Path.{◌≡◌, refl, sym, ap, ap₂, ◌∙◌}
 use Prim.Native.Nat.{ℕ, zero, suc, ◌+◌, ◌-◌, ◌*◌, ◌/◌, ◌%◌, ◌^◌, ◌<◌, ◌≤◌}
 use native.Mathlib.Decide.{ℕ_discrete, dec_lt}
-use native.Mathlib.Nat.{mod-lt, mul-div-mul_right, mul-div_cancel, mul_assoc, mul_comm, add-mul, div-add-mod', mul-zero, mul-lt-mul_of_pos_right, mul-mod_left, mul-sub, mul-le-mul_left, mul-one, le_of_mul-le-mul_right, add-mul-div_right, add-mul-mod_self_right}
+use native.Mathlib.Nat.{mod-lt, mul-div-mul_right, mul-div_cancel, mul_assoc, mul_comm, add-mul, div-add-mod', mul-zero, mul-lt-mul_of_pos_right, mul-mod_left, mul-sub, mul-le-mul_left, mul-one, add-mul-div_right, add-mul-mod_self_right}
 use native.Mathlib.Omega.{arith}
 use borrow.Author.Tests.{eqb-true, eq-eqb, ne_eqb, le-leb}
 use lib.Arith.{digits_mod}
 use lib.Dec.{T, eqb, leb, eqb→eq, leb→le}
 use lib.ListN.{length, get_or}
-use Rattle.laws.specs.Storing.{stores}
-use Rattle.laws.specs.StoringLaws.{stores_as}
 use Rattle.laws.specs.TableLaws.{every}
 use Rattle.panel.specs.Geometry.{stored_bits, outside_modes}
 use Rattle.panel.specs.Refusals.{judge}

@@ -1,14 +1,12 @@
 -- What the private functions of drawing require and leave. A reader of the promises need not believe any of it.
 use Rattle.std.specs.Prelude.{Bool, true, false, not, ◌&&◌, List, ◌≡◌, ℕ, ◌+◌, ◌*◌, ◌/◌, ◌^◌, ◌<◌, ◌≤◌, leb, length, get_or}
 use Rattle.std.specs.Int.{◌∣◌}
-use Rattle.laws.specs.Storing.{stores}
 use Rattle.panel.specs.Geometry.{width, height, stored_bits}
 use Rattle.pixels.specs.Format.{format}
 use Rattle.pixels.specs.Pixel.{indexed}
 use Rattle.pixels.specs.declared.format.Format.{Format}
 use Rattle.memory.specs.Memory.{first_word}
 use Rattle.memory.specs.declared.Screen.{Screen}
-use Rattle.drawing.specs.Colour.{row_colour}
 
 -- a format whose stored bits are those of a mode number (§2.2): 0 where there is no such mode
 pub record Sized (f : Format) : Type 0 where

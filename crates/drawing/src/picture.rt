@@ -1,6 +1,7 @@
 // The picture (§5.6), and a stretch of it (§5.7).
 ghost use Rattle.std.specs.Prelude.{true, ◌≡◌, ◌+◌, ◌-◌, ◌*◌, ◌/◌, ◌%◌, ◌<◌, ◌≤◌, length};
 ghost use Rattle.laws.specs.Answers.{leaves};
+ghost use Rattle.registers.specs.Refusals.{code};
 ghost use Rattle.drawing.specs.Colour.{contents};
 ghost use Rattle.drawing.specs.Core.{ByRows, InWords, Shows};
 ghost use Rattle.drawing.specs.Drawing.{pixels, colour_in_order, judge_picture, draw_picture, draw_stretch};
@@ -11,9 +12,10 @@ use super::pixel::pixel_colour;
 use super::refusals::judge_drawing;
 use super::table::fill_table;
 use memory::{Screen, first_word};
-use panel::geometry::{height, width};
+use panel::geometry::{Place, height, width};
 use pixels::format::format_of;
 use registers::Words;
+use registers::refusal::Refusal;
 
 // Pixels of the panel: W × H (§2.1).
 pub fn pixels_of(w: Words) -> u32
@@ -58,29 +60,30 @@ fn draw_few(s: Screen, lent: Lent, first: usize, out: &mut [u32])
     let wide = width(s.words) as usize;
     for (i, colour) in out.iter_mut().enumerate() {
         let number = first + i;
-        *colour = pixel_colour(s, lent, (number / wide) as u32, (number % wide) as u32);
+        let place = Place {
+            row: (number / wide) as u32,
+            column: (number % wide) as u32,
+        };
+        *colour = pixel_colour(s, lent, place);
     }
 }
 
-// Judges the picture: 1 to 8, 9, 10, or 0 (§9.3). `room` is how many entries are lent for the picture.
-fn judge_picture(s: Screen, lent: Lent, room: usize) -> u32
-    ensures { result ≡ judge_picture s (length lent.video.now) (length lent.palette.now) room }
+// Judges the picture: 1 to 8, 9, 10 (§9.3). `room` is how many entries are lent for the picture.
+fn judge_picture(s: Screen, lent: Lent, room: usize) -> Result<(), Refusal>
+    ensures { code result ≡ judge_picture s (length lent.entry.video.now) (length lent.entry.palette.now) room }
 {
     judge_drawing(s, lent, room < pixels_of(s.words) as usize)
 }
 
-// Draws the picture to the first W × H entries of `picture`, in reading order; the others stay (§5.6). Gives 0, or the number of the
-// refusal: 1 to 8, 9, 10 for a palette not of 256 entries or a `picture` of fewer than W × H; then nothing is written.
-pub fn draw_picture(s: Screen, lent: Lent, picture: &mut [u32]) -> u32
-    ensures { leaves result picture.new ≡ draw_picture s (contents lent.entry) picture.old }
+// Draws the picture to the first W × H entries of `picture`, in reading order; the others stay (§5.6). It is refused by 1 to 8, 9, 10
+// for a palette not of 256 entries or a `picture` of fewer than W × H; then nothing is written.
+pub fn draw_picture(s: Screen, lent: Lent, picture: &mut [u32]) -> Result<(), Refusal>
+    ensures { leaves (code result) picture.new ≡ draw_picture s (contents lent.entry) picture.old }
 {
-    let refusal = judge_picture(s, lent, picture.len());
-    if refusal != 0 {
-        return refusal;
-    }
+    judge_picture(s, lent, picture.len())?;
     let n = pixels_of(s.words) as usize;
     draw_rows(s, lent, 0, &mut picture[..n]);
-    0
+    Ok(())
 }
 
 // Rows fill whole words, and each lies inside `lent` words of memory. It is enough to look at the last.

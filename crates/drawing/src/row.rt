@@ -1,6 +1,7 @@
 // One row (§5.6).
 ghost use Rattle.std.specs.Prelude.{◌≡◌, ◌≤◌, length};
 ghost use Rattle.laws.specs.Answers.{leaves};
+ghost use Rattle.registers.specs.Refusals.{code};
 ghost use Rattle.pixels.specs.Pixel.{indexed};
 ghost use Rattle.drawing.specs.Colour.{contents, row_colour};
 ghost use Rattle.drawing.specs.Core.{Legal, InMemory, Shows};
@@ -12,8 +13,8 @@ use super::refusals::judge_drawing;
 use super::table::{fill_table, looked_up};
 use memory::{Screen, first_word};
 use panel::geometry::{height, width};
-use panel::refusals::and_where;
 use pixels::format::{Format, format_of};
+use registers::refusal::{Refusal, refuse_if};
 
 // A table where none is read.
 static NO_COLOURS: [u32; 256] = [0; 256];
@@ -33,23 +34,20 @@ fn draw_from(f: Format, video: &[u32], base: usize, palette: &[u16], out: &mut [
     }
 }
 
-// Judges a row: 1 to 8, 9, 10, 11, or 0 (§9.3). `room` is how many entries are lent for the row.
-fn judge_row(s: Screen, lent: Lent, row: u32, room: usize) -> u32
-    ensures { result ≡ judge_row s (length lent.video.now) (length lent.palette.now) row room }
+// Judges a row: 1 to 8, 9, 10, 11 (§9.3). `room` is how many entries are lent for the row.
+fn judge_row(s: Screen, lent: Lent, row: u32, room: usize) -> Result<(), Refusal>
+    ensures { code result ≡ judge_row s (length lent.entry.video.now) (length lent.entry.palette.now) row room }
 {
-    let to_10 = judge_drawing(s, lent, room < width(s.words) as usize);
-    and_where(to_10, height(s.words) <= row, 11)
+    judge_drawing(s, lent, room < width(s.words) as usize)?;
+    refuse_if(height(s.words) <= row, Refusal::OutsidePanel)
 }
 
-// Draws a row to the first W entries of `out`; the others stay (§5.6). Gives 0, or the number of the refusal: 1 to 8, 9, 10 for a
-// palette not of 256 entries or an `out` of fewer than W, 11 for a row outside the panel; then nothing is written.
-pub fn draw_row(s: Screen, lent: Lent, row: u32, out: &mut [u32]) -> u32
-    ensures { leaves result out.new ≡ draw_row s (contents lent.entry) row out.old }
+// Draws a row to the first W entries of `out`; the others stay (§5.6). It is refused by 1 to 8, 9, 10 for a palette not of 256 entries
+// or an `out` of fewer than W, 11 for a row outside the panel; then nothing is written.
+pub fn draw_row(s: Screen, lent: Lent, row: u32, out: &mut [u32]) -> Result<(), Refusal>
+    ensures { leaves (code result) out.new ≡ draw_row s (contents lent.entry) row out.old }
 {
-    let refusal = judge_row(s, lent, row, out.len());
-    if refusal != 0 {
-        return refusal;
-    }
+    judge_row(s, lent, row, out.len())?;
     let f = format_of(s.words);
     let wide = width(s.words) as usize;
     draw_from(
@@ -59,5 +57,5 @@ pub fn draw_row(s: Screen, lent: Lent, row: u32, out: &mut [u32]) -> u32
         lent.palette,
         &mut out[..wide],
     );
-    0
+    Ok(())
 }

@@ -1,9 +1,8 @@
 -- `drawing::words::look_up_word` meets its contract.
-use mathlib.Core.Path.{◌≡◌, refl, ap, ◌∙◌}
-use Prim.Native.Nat.{ℕ, ◌+◌, ◌-◌, ◌*◌, ◌/◌, ◌%◌, ◌^◌, ◌<◌, ◌≤◌}
+use mathlib.Core.Path.{refl, ap, ◌∙◌}
+use Prim.Native.Nat.{ℕ}
 use native.Mathlib.Omega.{arith}
 use lib.ListN.{get_or}
-use Rattle.pixels.specs.Order.{pixel_bits}
 use Rattle.pixels.proofs.PixelOrder.{pixel-past}
 use Rattle.drawing.proofs.Shown.{one-shown}
 use Rattle.drawing.proofs.words.look_up_word.Goals as goal
