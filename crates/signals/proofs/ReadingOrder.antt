@@ -15,7 +15,7 @@ use Rattle.signals.specs.Parts.{lines_before, clocks_before, line_part}
 use Rattle.signals.specs.declared.parts.Part.TheVariants.{Active}
 use Rattle.signals.specs.Core.{columns_before, pixels_in_lines, pixels_by_lines}
 use Rattle.signals.specs.Pixel.{spot_at, pixel_clock, count_in, pixels_before}
-use Rattle.signals.specs.declared.pixel.Place.{Place}
+use Rattle.panel.specs.declared.geometry.Place.{Place}
 use Rattle.signals.proofs.Positions.{active-is-among, other-is-outside, Lies, ahead, among, past, lies, wide, high, line-room, some-clocks, At, Shows, pixel, blank, shows, at-pixel-clock}
 
 -- ---- pixels before a clock of a line, by where the line lies

@@ -8,7 +8,7 @@ use Rattle.signals.specs.Pixel.{spot_of}
 use Rattle.signals.specs.declared.clock.Clock.{Clock}
 use Rattle.signals.specs.declared.parts.Part.{Part}
 use Rattle.signals.specs.declared.parts.Part.TheVariants.{Sync, BackPorch, Active, FrontPorch}
-use Rattle.signals.specs.declared.pixel.Place.{Place}
+use Rattle.panel.specs.declared.geometry.Place.{Place}
 
 -- a level (§6.7): 1 where the signal is active, else 0; inverted where the signal's INV bit is set
 unfoldable pub level : ℕ → Bool → ℕ

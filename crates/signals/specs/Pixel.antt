@@ -5,7 +5,7 @@ use Rattle.panel.specs.Timing.{Timing, line_clocks}
 use Rattle.signals.specs.Parts.{lines_before, clocks_before, line_part, clock_part}
 use Rattle.signals.specs.declared.parts.Part.{Part}
 use Rattle.signals.specs.declared.parts.Part.TheVariants.{Sync, BackPorch, Active, FrontPorch}
-use Rattle.signals.specs.declared.pixel.Place.{Place}
+use Rattle.panel.specs.declared.geometry.Place.{Place}
 
 -- what a clock in this part of the line of row r shows
 unfoldable pub in_row : ℕ → Part → Option Place

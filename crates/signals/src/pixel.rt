@@ -4,15 +4,9 @@ ghost use Rattle.panel.specs.Timing.{timing};
 ghost use Rattle.signals.specs.Pixel.{spot_of, pixels_before};
 
 use super::parts::{Layout, Part, Parts};
+use panel::geometry::Place;
 use panel::timing::line_clocks;
 use registers::Words;
-
-// A pixel's row and column.
-#[derive(Clone, Copy)]
-pub struct Place {
-    pub row: u32,
-    pub column: u32,
-}
 
 // The pixel that a clock in these parts shows, or none.
 #[tactic(auto, unfolding(crate::specs::Pixel::spot_of, crate::specs::Pixel::in_row))]
