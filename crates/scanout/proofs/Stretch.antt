@@ -19,7 +19,7 @@ use Rattle.signals.proofs.Positions.{wide, At, Shows, pixel, blank, shows}
 use Rattle.signals.proofs.ReadingOrder.{before-pixel, after-pixel, after-blank, further}
 use Rattle.signals.specs.Pixel.{spot_at, pixels_before}
 use Rattle.panel.specs.declared.geometry.Place.{Place}
-use Rattle.std.specs.Prelude.{Option, Some, None}
+use Rattle.std.specs.Prelude.{Option, Some}
 use Rattle.scanout.specs.Calls.{spot_colour, next_colour, store, store_next, drawn}
 use Rattle.scanout.specs.State.{frame_of, shown_words, after, shown_screen}
 use Rattle.scanout.specs.declared.state.State.{State}

@@ -1,6 +1,5 @@
 -- `scanout::refusals::judge_scan` meets its contract: 1 to 8 of both viewports, then 9, 10, 13, 15.
-use Rattle.std.specs.Prelude.{Bool, ◌||◌, ◌≡◌, cond, [], ◌∷◌, ℕ, length}
-use Rattle.std.proofs.Common.{ap}
+use Rattle.std.specs.Prelude.{Bool, ◌||◌, [], ◌∷◌, ℕ, length}
 use Rattle.laws.specs.Cases.{Case, ◌when◌}
 use Rattle.laws.proofs.CaseLaws.{chain-ends}
 use Rattle.registers.proofs.Refusals.{exits, exits-in-front}

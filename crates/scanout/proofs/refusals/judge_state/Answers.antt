@@ -6,7 +6,6 @@ use Rattle.laws.specs.BooleanLaws.{both_true}
 use Rattle.laws.specs.Cases.{lower, lowest}
 use Rattle.laws.proofs.CaseLaws.{lower-same, lowest-joined}
 use Rattle.memory.specs.Memory.{memory_cases, judge_memory}
-use Rattle.registers.specs.declared.Words.{Words}
 use Rattle.scanout.specs.Refusals.{viewport_cases}
 use Rattle.scanout.specs.State.{viewport_of}
 use Rattle.scanout.specs.declared.state.State.{State}

@@ -1,7 +1,6 @@
 -- `scanout::start::start` meets its contract.
 use Rattle.std.specs.Prelude.{length}
 use Rattle.std.proofs.Common.{ap, refl}
-use Rattle.laws.specs.Answers.{judged}
 use Rattle.laws.proofs.AnswerLaws.{goes_on, gives-answer}
 use Rattle.memory.specs.Memory.{screen}
 use Rattle.registers.specs.Loading.{load}
