@@ -12,7 +12,8 @@ use Rattle.laws.proofs.AnswerLaws.{judged-accepted, judged-refused, is-refused, 
 use Rattle.drawing.specs.Drawing.{pixels}
 use Rattle.registers.specs.Loading.{too_short}
 use Rattle.signals.specs.Clock.{clock_at}
-use Rattle.scanout.specs.Answers.{Shown, Taken}
+use Rattle.scanout.specs.declared.run.Taken.{Taken}
+use Rattle.scanout.specs.declared.step.Shown.{Shown}
 use Rattle.scanout.specs.Calls.{next_colour, judge_step, step, count_of, drawn, judge_run, run, with_pending, change}
 use Rattle.scanout.specs.Lists.{Call, a_step, a_run, a_change, refusal, next, clocks, pending_after, picture_after}
 use Rattle.scanout.specs.Refusals.{judge_change}

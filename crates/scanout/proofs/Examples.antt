@@ -4,6 +4,7 @@ use mathlib.Core.List.{List, [], ◌∷◌, ◌++◌}
 use mathlib.Core.Path.{◌≡◌, refl}
 use Prim.Native.Nat.{ℕ, zero, suc}
 use lib.ListN.{replicate}
+use Rattle.std.specs.Prelude.{Some, None}
 use Rattle.laws.specs.Answers.{Answer, accepted, refused, judged, outcome, or_else, number_of}
 use Rattle.laws.specs.Booleans.{some_below}
 use Rattle.laws.specs.Cases.{lowest, lower}
@@ -25,8 +26,7 @@ use Rattle.signals.specs.Clock.{level, data_word, in_sync, shows_pixel, clock_of
 use Rattle.signals.specs.Parts.{part_at, line_part, clock_part}
 use Rattle.signals.specs.Pixel.{in_row, spot_of, spot_at, pixel_clock}
 use Rattle.signals.specs.declared.clock.Clock.{Clock}
-use Rattle.signals.specs.declared.pixel.Spot.TheVariants.{Pixel, Blank}
-use Rattle.scanout.specs.Answers.{Shown}
+use Rattle.scanout.specs.declared.step.Shown.{Shown}
 use Rattle.scanout.specs.Calls.{Run, begun, spot_colour, next_colour, judge_step, step, count_of, store, store_next, drawn, judge_run, run, change}
 use Rattle.scanout.specs.Lists.{a_step, a_run, a_change, refusal, next, clocks, pending_after, picture_after, Calls, nothing, ◌then◌, final, taken, last_viewport, picture_left, calls_before, frame_viewport}
 use Rattle.scanout.specs.Refusals.{bank_differs, past_frame, judge_scan, judge_change}
@@ -171,10 +171,10 @@ t8 = 0x479 ∷ 0x014FC041 ∷ 0x0098EF09 ∷ 0x9 ∷ 0xB09 ∷ 0x18000000 ∷ 0x
 pub record T8Clocks : Type 0 where
   pub first : pixel_clock (timing (nine_words t8)) 0 0 ≡ 1150
   pub last : pixel_clock (timing (nine_words t8)) 319 239 ≡ 90709
-  pub shows_first : spot_at (timing (nine_words t8)) 1150 ≡ Pixel 0 0
-  pub before-first : spot_at (timing (nine_words t8)) 1149 ≡ Blank
-  pub shows-last : spot_at (timing (nine_words t8)) 90709 ≡ Pixel 319 239
-  pub after_last : spot_at (timing (nine_words t8)) 90710 ≡ Blank
+  pub shows_first : spot_at (timing (nine_words t8)) 1150 ≡ Some (record { row = 0; column = 0 })
+  pub before-first : spot_at (timing (nine_words t8)) 1149 ≡ None
+  pub shows-last : spot_at (timing (nine_words t8)) 90709 ≡ Some (record { row = 319; column = 239 })
+  pub after_last : spot_at (timing (nine_words t8)) 90710 ≡ None
 
 pub t8-clocks : T8Clocks
 unfolding pixel_clock line_clocks part_at line_part clock_part in_row spot_of spot_at

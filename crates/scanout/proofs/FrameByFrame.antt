@@ -16,7 +16,8 @@ use Rattle.memory.specs.Memory.{screen}
 use Rattle.registers.specs.Loading.{load, too_short}
 use Rattle.registers.specs.declared.Words.{Words}
 use Rattle.signals.specs.Clock.{clock_at}
-use Rattle.scanout.specs.Answers.{Shown, Taken}
+use Rattle.scanout.specs.declared.run.Taken.{Taken}
+use Rattle.scanout.specs.declared.step.Shown.{Shown}
 use Rattle.scanout.specs.Calls.{begun, start, next_colour, judge_step, step, run}
 use Rattle.scanout.specs.FrameByFrame.{pixel_time, frame_colour, Takes, TakenBy, by-step, by-run, Demand3, Demand3FromStart, single_steps, RunIsSteps}
 use Rattle.scanout.specs.Lists.{Call, a_step, a_run, a_change, refusal, next, clocks, Calls, nothing, ◌then◌, Begins, final, taken, last_viewport, picture_left}

@@ -10,7 +10,7 @@ use Rattle.drawing.specs.Colour.{Lent}
 use Rattle.laws.specs.Answers.{Answer, accepted, refused, or_else}
 use Rattle.drawing.specs.Drawing.{draw_pixel}
 use Rattle.memory.specs.Memory.{screen}
-use Rattle.scanout.specs.Answers.{Taken}
+use Rattle.scanout.specs.declared.run.Taken.{Taken}
 use Rattle.scanout.specs.Calls.{run}
 use Rattle.scanout.specs.FrameByFrame.{PixelAt, entry_of, pixel_colour, RunIn, left_by, RunTakes, OnePicture}
 use Rattle.scanout.specs.Lists.{Call, a_step, a_run, a_change, Calls, nothing, ◌then◌, Begins, final, taken, picture_after, picture_left}

@@ -20,8 +20,8 @@ use Rattle.signals.proofs.Positions.{Shows, pixel, blank, shows, at-shows}
 use Rattle.signals.specs.Clock.{shows_pixel, clock_at, vsync_active, hsync_active, vden_active, before_invvd}
 use Rattle.signals.specs.Pixel.{spot_at}
 use Rattle.signals.specs.declared.clock.Clock.{Clock}
-use Rattle.signals.specs.declared.pixel.Spot.{Spot}
-use Rattle.signals.specs.declared.pixel.Spot.TheVariants.{Pixel, Blank}
+use Rattle.panel.specs.declared.geometry.Place.{Place}
+use Rattle.std.specs.Prelude.{Option, Some, None}
 use Rattle.scanout.specs.Calls.{spot_colour, next_colour}
 use Rattle.scanout.specs.FrameByFrame.{PixelAt, StepIn, frame_colour, pixel_colour}
 use Rattle.scanout.specs.Lists.{Call, a_step, Calls, ◌then◌, Begins, final, clocks, taken, frame_words}
@@ -60,9 +60,9 @@ next-colour-lines : (s : State) (l : Lent) → next_colour s l < 2 ^ 24
 unfolding next_colour spot_colour
 next-colour-lines s l = go (spot_at (timing s.screen.words) s.position)
   where
-    go : (x : Spot) → spot_colour (shown_screen s) l x < 2 ^ 24
-    go (Pixel r c) = colour-lines (shown_screen s) l r c
-    go Blank = omega arith
+    go : (x : Option Place) → spot_colour (shown_screen s) l x < 2 ^ 24
+    go (Some p) = colour-lines (shown_screen s) l p.row p.column
+    go None = omega arith
 
 module _ (s : State) (calls : Calls) (q : StepIn s calls) (i : Schedule s q.before) where
   -- the state that the call gets, and the number of its first clock
@@ -131,7 +131,7 @@ module _ (s : State) (calls : Calls) (q : StepIn s calls) (i : Schedule s q.befo
         ∙ ap (λ (f : ℕ). frame_colour s calls f q.lent x.row x.column) (its-frame s from x),
   )
     where
-      shows-it : spot_at (timing s.screen.words) (from % frame_of s) ≡ Pixel x.row x.column
+      shows-it : spot_at (timing s.screen.words) (from % frame_of s) ≡ Some (record { row = x.row; column = x.column })
       shows-it =
           at-shows (timing s.screen.words) (from % frame_of s) x.row x.column
           (pixel-position s from x)

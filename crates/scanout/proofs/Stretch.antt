@@ -18,8 +18,8 @@ use Rattle.registers.specs.declared.Words.{Words}
 use Rattle.signals.proofs.Positions.{wide, At, Shows, pixel, blank, shows}
 use Rattle.signals.proofs.ReadingOrder.{before-pixel, after-pixel, after-blank, further}
 use Rattle.signals.specs.Pixel.{spot_at, pixels_before}
-use Rattle.signals.specs.declared.pixel.Spot.{Spot}
-use Rattle.signals.specs.declared.pixel.Spot.TheVariants.{Pixel}
+use Rattle.panel.specs.declared.geometry.Place.{Place}
+use Rattle.std.specs.Prelude.{Option, Some}
 use Rattle.scanout.specs.Calls.{spot_colour, next_colour, store, store_next, drawn}
 use Rattle.scanout.specs.State.{frame_of, shown_words, after, shown_screen}
 use Rattle.scanout.specs.declared.state.State.{State}
@@ -81,10 +81,10 @@ module _ (s : State) (l : Lent) where
       later : first ≤ pixels_before t p
       later = further t s.position p (omega arith)
 
-      at : Spot → List ℕ
+      at : Option Place → List ℕ
       at spot = store (wide t) spot (spot_colour (shown_screen s) l spot) here
 
-      pixel-stored : (r c : ℕ) → At t p r c → at (Pixel r c) ≡ stores colours first (many (suc n)) picture
+      pixel-stored : (r c : ℕ) → At t p r c → at (Some (record { row = r; column = c })) ≡ stores colours first (many (suc n)) picture
       pixel-stored r c a =
           ap₂ (set here) place (same-colour (first + many n) r c (sym place) a.column)
           ∙ ap (λ (k : ℕ). stores colours first k picture) one_more

@@ -1,23 +1,23 @@
 -- The four calls of a scan (§7.2 to §7.5): what each gives, refused or not. The claim of FrameByFrame is about lists of them. Promises
 -- cite it, so a reader must believe it.
-use Rattle.std.specs.Prelude.{false, List, ℕ, zero, suc, ◌+◌, ◌-◌, ◌*◌, min, length, set}
+use Rattle.std.specs.Prelude.{false, Option, Some, None, List, ℕ, zero, suc, ◌+◌, ◌-◌, ◌*◌, min, length, set}
 use Rattle.laws.specs.Answers.{Answer, judged, and_then, outcome}
 use Rattle.drawing.specs.Colour.{Lent, colour}
 use Rattle.drawing.specs.Drawing.{pixels}
 use Rattle.panel.specs.Geometry.{width}
 use Rattle.panel.specs.Timing.{timing}
+use Rattle.panel.specs.declared.geometry.Place.{Place}
 use Rattle.registers.specs.Loading.{load, too_short}
 use Rattle.memory.specs.Memory.{screen}
 use Rattle.memory.specs.declared.Screen.{Screen}
 use Rattle.signals.specs.Clock.{clock_at}
 use Rattle.signals.specs.Pixel.{spot_at}
-use Rattle.signals.specs.declared.pixel.Spot.{Spot}
-use Rattle.signals.specs.declared.pixel.Spot.TheVariants.{Pixel, Blank}
-use Rattle.scanout.specs.Answers.{Shown, Taken}
 use Rattle.scanout.specs.Refusals.{judge_start, judge_scan, judge_change}
 use Rattle.scanout.specs.State.{viewport_of, frame_of, shown_words, shown_screen, advance, after}
+use Rattle.scanout.specs.declared.run.Taken.{Taken}
 use Rattle.scanout.specs.declared.state.State.{State}
 use Rattle.scanout.specs.declared.state.Viewport.{Viewport}
+use Rattle.scanout.specs.declared.step.Shown.{Shown}
 
 -- ---- start (§7.2)
 
@@ -33,9 +33,9 @@ start words window-start memory =
 -- ---- step (§7.3)
 
 -- the colour of what a clock shows, before INVVD: its pixel's (§5.5), and 0 where it is blank (§6.7)
-unfoldable pub spot_colour : Screen → Lent → Spot → ℕ
-spot_colour s l (Pixel r c) = colour s l r c
-spot_colour s l Blank = 0
+unfoldable pub spot_colour : Screen → Lent → Option Place → ℕ
+spot_colour s l (Some p) = colour s l p.row p.column
+spot_colour s l None = 0
 
 -- the colour of a state's next clock
 unfoldable pub next_colour : State → Lent → ℕ
@@ -64,9 +64,9 @@ abbrev pub many_clocks : State → ℕ → Taken
 many_clocks s n = record { count = count_of s n; next = after (count_of s n) s }
 
 -- the picture after a clock that shows this in colour v: a pixel's entry, r × W + c, then holds v; a blank clock writes nothing
-unfoldable pub store : ℕ → Spot → ℕ → List ℕ → List ℕ
-store wide (Pixel r c) v picture = set picture (r * wide + c) v
-store wide Blank v picture = picture
+unfoldable pub store : ℕ → Option Place → ℕ → List ℕ → List ℕ
+store wide (Some p) v picture = set picture (p.row * wide + p.column) v
+store wide None v picture = picture
 
 -- the picture after a state's next clock
 unfoldable pub store_next : State → Lent → List ℕ → List ℕ

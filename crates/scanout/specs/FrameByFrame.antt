@@ -14,7 +14,8 @@ use Rattle.registers.specs.Fields.{vspw, hspw}
 use Rattle.registers.specs.declared.Words.{Words}
 use Rattle.signals.specs.Clock.{vsync_active, hsync_active, vden_active, before_invvd}
 use Rattle.signals.specs.Pixel.{pixel_clock}
-use Rattle.scanout.specs.Answers.{Shown, Taken}
+use Rattle.scanout.specs.declared.run.Taken.{Taken}
+use Rattle.scanout.specs.declared.step.Shown.{Shown}
 use Rattle.scanout.specs.Calls.{start, step, run}
 use Rattle.scanout.specs.Lists.{Call, a_step, a_run, lent_to, refusal, Calls, nothing, ◌then◌, Begins, final, taken, last_viewport, picture_left, frame_words}
 use Rattle.scanout.specs.State.{frame_of}

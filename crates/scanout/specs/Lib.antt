@@ -1,6 +1,5 @@
 pub mod State
 pub mod Refusals
-pub mod Answers
 pub mod Calls
 pub mod Core
 pub mod Lists

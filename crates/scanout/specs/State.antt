@@ -1,13 +1,32 @@
 -- The state of a scan (§7.1): the screen in force, which is nine words and a window start; the `pending` viewport (the waiting view); and
 -- the position, the number of the next clock in its frame. A `Viewport` (a view) is LCDSADDR1 and LCDSADDR2.
 -- Promises cite it, so a reader must believe it.
-use Rattle.std.specs.Prelude.{cond, ℕ, zero, suc, ◌+◌, ◌%◌, eqb}
+use Rattle.std.specs.Prelude.{cond, List, [], ◌∷◌, ◌++◌, ℕ, zero, suc, ◌+◌, ◌%◌, eqb, get_or}
 use Rattle.panel.specs.Timing.{timing, frame_clocks}
+use Rattle.registers.specs.Loading.{nine_words, word_entries}
 use Rattle.registers.specs.declared.Words.{Words}
 use Rattle.memory.specs.Memory.{screen}
 use Rattle.memory.specs.declared.Screen.{Screen}
 use Rattle.scanout.specs.declared.state.State.{State}
 use Rattle.scanout.specs.declared.state.Viewport.{Viewport}
+
+-- ---- in entries (§10.4)
+
+-- as it is read: entries 0 to 8 the words in force, 9 the window start, 10 and 11 the pending LCDSADDR1 and LCDSADDR2, 12 the position
+abbrev pub state_of : List ℕ → State
+state_of scan =
+    record {
+      screen = screen (nine_words scan) (get_or scan 9 0);
+      pending = record { lcdsaddr1 = get_or scan 10 0; lcdsaddr2 = get_or scan 11 0 };
+      position = get_or scan 12 0;
+    }
+
+-- its entries, in the same order
+abbrev pub entries_of : State → List ℕ
+entries_of s =
+    word_entries s.screen.words ++ (s.screen.window_start ∷ s.pending.lcdsaddr1 ∷ s.pending.lcdsaddr2 ∷ s.position ∷ [])
+
+-- ---- what the next clock is shown with
 
 -- the viewport in the words
 abbrev pub viewport_of : Words → Viewport

@@ -1,14 +1,14 @@
 // The state of a scan (§7.1).
 ghost use Rattle.std.specs.Prelude.{◌≡◌, ◌+◌, ◌%◌, ◌<◌, ◌≤◌};
 ghost use Rattle.scanout.specs.Core.{moved};
-ghost use Rattle.scanout.specs.State.{with_viewport, viewport_of, frame_of, shown_words, shown_screen};
+ghost use Rattle.scanout.specs.State.{state_of, entries_of, with_viewport, viewport_of, frame_of, shown_words, shown_screen};
 
 use memory::Screen;
 use panel::timing::frame_clocks;
 use registers::Words;
 
 // Where the picture begins and ends: LCDSADDR1 and LCDSADDR2.
-#[derive(Clone, Copy)]
+#[derive(Clone, Copy, PartialEq, Eq)]
 pub struct Viewport {
     pub lcdsaddr1: u32,
     pub lcdsaddr2: u32,
@@ -21,6 +21,50 @@ pub struct State {
     pub screen: Screen,
     pub pending: Viewport,
     pub position: u32,
+}
+
+// As it lies in 13 entries (§10.4): 0 to 8 the nine words in force, 9 the window start, 10 and 11 the pending LCDSADDR1 and LCDSADDR2,
+// 12 the position.
+impl From<[u32; 13]> for State {
+    ghost from_gives = { λ n s. s ≡ state_of n };
+
+    fn from(entries: [u32; 13]) -> State {
+        let nine = entries.first_chunk().unwrap();
+        State {
+            screen: Screen {
+                words: Words::from(*nine),
+                window_start: entries[9],
+            },
+            pending: Viewport {
+                lcdsaddr1: entries[10],
+                lcdsaddr2: entries[11],
+            },
+            position: entries[12],
+        }
+    }
+}
+
+impl From<State> for [u32; 13] {
+    ghost from_gives = { λ s n. n ≡ entries_of s };
+
+    fn from(s: State) -> [u32; 13] {
+        let w = s.screen.words;
+        [
+            w.lcdcon1,
+            w.lcdcon2,
+            w.lcdcon3,
+            w.lcdcon4,
+            w.lcdcon5,
+            w.lcdsaddr1,
+            w.lcdsaddr2,
+            w.lcdsaddr3,
+            w.tpal,
+            s.screen.window_start,
+            s.pending.lcdsaddr1,
+            s.pending.lcdsaddr2,
+            s.position,
+        ]
+    }
 }
 
 // The viewport in the words.
@@ -38,19 +82,14 @@ pub fn with_viewport(w: Words, v: Viewport) -> Words
     ensures { result ≡ with_viewport w v }
 {
     Words {
-        lcdcon1: w.lcdcon1,
-        lcdcon2: w.lcdcon2,
-        lcdcon3: w.lcdcon3,
-        lcdcon4: w.lcdcon4,
-        lcdcon5: w.lcdcon5,
         lcdsaddr1: v.lcdsaddr1,
         lcdsaddr2: v.lcdsaddr2,
-        lcdsaddr3: w.lcdsaddr3,
-        tpal: w.tpal,
+        ..w
     }
 }
 
 // The words that the next clock is shown with: a frame's first clock is shown with the pending viewport (§7.6).
+#[tactic(auto, unfolding(crate::specs::State::shown_words))]
 pub fn shown_words(s: State) -> Words
     ensures { result ≡ shown_words s }
 {
@@ -65,10 +104,9 @@ pub fn shown_words(s: State) -> Words
 pub fn shown_screen(s: State) -> Screen
     ensures { result ≡ shown_screen s }
 {
-    let words = shown_words(s);
     Screen {
-        words,
-        window_start: s.screen.window_start,
+        words: shown_words(s),
+        ..s.screen
     }
 }
 
@@ -78,22 +116,17 @@ fn position_after(position: u32, count: u32, frame: u32) -> u32
     ensures { result ≡ (position + count) % frame }
 {
     let next = position + count;
-    if next == frame {
-        return 0;
-    }
-    next
+    if next == frame { 0 } else { next }
 }
 
-// The state `count` clocks on, all of one frame and shown with this screen.
-pub(crate) fn moved(s: State, shown: Screen, count: u32) -> State
-    requires { (shown ≡ shown_screen s) × (s.position + count ≤ frame_of s) }
+// The state `count` clocks on, all of one frame.
+pub(crate) fn moved(s: State, count: u32) -> State
+    requires { s.position + count ≤ frame_of s }
     ensures { result ≡ moved count s }
 {
-    let pending = s.pending;
-    let position = position_after(s.position, count, frame_clocks(s.screen.words));
     State {
-        screen: shown,
-        pending,
-        position,
+        screen: shown_screen(s),
+        position: position_after(s.position, count, frame_clocks(s.screen.words)),
+        ..s
     }
 }

@@ -8,13 +8,14 @@ use native.Mathlib.Omega.{arith}
 use borrow.Author.Tests.{lt-ltb, le-ltb}
 use lib.Arith.{digits_div, digits_mod, digits_lt}
 use lib.Dec.{ltb}
+use Rattle.std.specs.Prelude.{Some, None, ◌⊎◌}
+use Rattle.std.proofs.Common.{inl, inr}
 use Rattle.laws.specs.BooleanLaws.{either_way}
 use Rattle.panel.specs.Timing.{Timing, line_clocks, frame_lines, frame_clocks}
 use Rattle.signals.specs.Parts.{part_at, lines_before, clocks_before, line_part, clock_part}
 use Rattle.signals.specs.Pixel.{in_row, spot_of, spot_at, pixel_clock}
 use Rattle.signals.specs.declared.parts.Part.{Part}
 use Rattle.signals.specs.declared.parts.Part.TheVariants.{Sync, BackPorch, Active, FrontPorch}
-use Rattle.signals.specs.declared.pixel.Spot.TheVariants.{Pixel, Blank}
 
 -- ---- where the number of a line or clock lies: ahead of the active ones, among them, or past them
 
@@ -56,14 +57,32 @@ module _ (sync before active n : ℕ) where
       let rest : n - before ≡ k = omega arith in
       rw (le-ltb n sync (omega arith), le-ltb n before (omega arith), rest, lt-ltb k active h) refl
 
-pub idle-line : (line clock : Part) → Idle line → spot_of line clock ≡ Blank
+  -- and what an active part says, or one that is not
+  pub active-is-among : (k : ℕ) → sync ≤ before → part_at sync before active n ≡ Active k → (k < active) × (n ≡ before + k)
+  active-is-among k s e = go (lies before active n)
+    where
+      go : Lies before active n → (k < active) × (n ≡ before + k)
+      go (ahead h) = absurd (rw e at (ahead-is-idle h))
+      go (past h) = absurd (rw e at (past-is-idle h))
+      go (among j h q) = let same : k ≡ j = cc (e, among-is-active j s h q) in rw same (h, q)
+
+  pub other-is-outside : sync ≤ before → ((k : ℕ) → part_at sync before active n ≡ Active k → ⊥)
+      → (n < before) ⊎ (before + active ≤ n)
+  other-is-outside s ne = go (lies before active n)
+    where
+      go : Lies before active n → (n < before) ⊎ (before + active ≤ n)
+      go (ahead h) = inl h
+      go (past h) = inr h
+      go (among k h q) = absurd (ne k (among-is-active k s h q))
+
+pub idle-line : (line clock : Part) → Idle line → spot_of line clock ≡ None
 unfolding spot_of
 idle-line Sync clock i = refl
 idle-line BackPorch clock i = refl
 idle-line (Active k) clock i = absurd i
 idle-line FrontPorch clock i = refl
 
-pub idle-clock : (r : ℕ) (clock : Part) → Idle clock → in_row r clock ≡ Blank
+pub idle-clock : (r : ℕ) (clock : Part) → Idle clock → in_row r clock ≡ None
 unfolding in_row
 idle-clock r Sync i = refl
 idle-clock r BackPorch i = refl
@@ -99,7 +118,7 @@ module _ (t : Timing) where
     pub line : p / line_clocks t ≡ lines_before t + r
     pub clock : p % line_clocks t ≡ clocks_before t + c
 
-  pub at-shows : (p r c : ℕ) → At p r c → spot_at t p ≡ Pixel r c
+  pub at-shows : (p r c : ℕ) → At p r c → spot_at t p ≡ Some (record { row = r; column = c })
   unfolding spot_at line_part clock_part spot_of in_row
   at-shows p r c a =
       ap₂ spot_of
@@ -107,17 +126,17 @@ module _ (t : Timing) where
       (among-is-active (t.hspw + 1) (clocks_before t) wide (p % line_clocks t) c (omega arith) a.column a.clock)
 
   pub data Shows (p : ℕ) : Type 0 where
-    pixel : (r c : ℕ) → At p r c → spot_at t p ≡ Pixel r c → Shows p
-    blank : ((r c : ℕ) → At p r c → ⊥) → spot_at t p ≡ Blank → Shows p
+    pixel : (r c : ℕ) → At p r c → spot_at t p ≡ Some (record { row = r; column = c }) → Shows p
+    blank : ((r c : ℕ) → At p r c → ⊥) → spot_at t p ≡ None → Shows p
 
   pub shows : (p : ℕ) → Shows p
   unfolding spot_at line_part clock_part spot_of
   shows p = go (lies (lines_before t) high (p / line_clocks t)) (lies (clocks_before t) wide (p % line_clocks t))
     where
-      quiet_line : Idle (line_part t p) → spot_at t p ≡ Blank
+      quiet_line : Idle (line_part t p) → spot_at t p ≡ None
       quiet_line i = idle-line (line_part t p) (clock_part t p) i
 
-      quiet-clock : (r : ℕ) → line_part t p ≡ Active r → Idle (clock_part t p) → spot_at t p ≡ Blank
+      quiet-clock : (r : ℕ) → line_part t p ≡ Active r → Idle (clock_part t p) → spot_at t p ≡ None
       quiet-clock r e i = ap (λ (line : Part). spot_of line (clock_part t p)) e ∙ idle-clock r (clock_part t p) i
 
       active-line : (r : ℕ) → r < high → p / line_clocks t ≡ lines_before t + r → line_part t p ≡ Active r

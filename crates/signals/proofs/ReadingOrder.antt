@@ -8,12 +8,15 @@ use native.Mathlib.Numerals.{add-one}
 use native.Mathlib.Omega.{arith}
 use borrow.Author.Tests.{lt-ltb, le-ltb}
 use lib.Arith.{digits_div, digits_mod}
+use Rattle.std.specs.Prelude.{Option, min}
+use Rattle.std.proofs.Common.{⊎_elim}
 use Rattle.panel.specs.Timing.{Timing, line_clocks}
-use Rattle.signals.specs.Parts.{lines_before, clocks_before}
+use Rattle.signals.specs.Parts.{lines_before, clocks_before, line_part}
+use Rattle.signals.specs.declared.parts.Part.TheVariants.{Active}
 use Rattle.signals.specs.Core.{columns_before, pixels_in_lines, pixels_by_lines}
 use Rattle.signals.specs.Pixel.{spot_at, pixel_clock, count_in, pixels_before}
-use Rattle.signals.specs.declared.pixel.Spot.{Spot}
-use Rattle.signals.proofs.Positions.{Lies, ahead, among, past, lies, wide, high, line-room, some-clocks, At, Shows, pixel, blank, shows, at-pixel-clock}
+use Rattle.panel.specs.declared.geometry.Place.{Place}
+use Rattle.signals.proofs.Positions.{active-is-among, other-is-outside, Lies, ahead, among, past, lies, wide, high, line-room, some-clocks, At, Shows, pixel, blank, shows, at-pixel-clock}
 
 -- ---- pixels before a clock of a line, by where the line lies
 
@@ -162,10 +165,34 @@ module _ (t : Timing) where
     where
       one_more : Shows t p → pixels_by_lines t p + count_in (spot_at t p) ≡ pixels_by_lines t (p + 1)
       one_more (pixel r c a e) =
-          ap (λ (x : Spot). pixels_by_lines t p + count_in x) e
+          ap (λ (x : Option Place). pixels_by_lines t p + count_in x) e
           ∙ omega (arith, by-lines-before p r c a, by-lines-after p r c a)
       one_more (blank none e) =
-          ap (λ (x : Spot). pixels_by_lines t p + count_in x) e ∙ omega (arith, by-lines-blank p none)
+          ap (λ (x : Option Place). pixels_by_lines t p + count_in x) e ∙ omega (arith, by-lines-blank p none)
+
+  -- and the count by the part of the line: in an active one the rows above it and what comes before the clock, in others whole rows
+  pub counted-in-row : (p r : ℕ) → line_part t p ≡ Active r
+      → pixels_before t p ≡ r * wide t + min (p % line_clocks t - clocks_before t) (wide t)
+  unfolding line_part pixels_by_lines columns_before
+  counted-in-row p r e =
+      let a = active-is-among (t.vspw + 1) (lines_before t) (high t) (p / line_clocks t) r (omega arith) e in
+      counted-by-lines p
+      ∙ some-among (lines_before t) (high t) (wide t) (p / line_clocks t) (cols (p % line_clocks t)) r a.0 a.1
+
+  pub counted-in-rows : (p : ℕ) → ((r : ℕ) → line_part t p ≡ Active r → ⊥)
+      → pixels_before t p ≡ min (p / line_clocks t - lines_before t) (high t) * wide t
+  unfolding line_part pixels_by_lines
+  counted-in-rows p ne =
+      counted-by-lines p
+      ∙ ⊎_elim
+      (λ h. none_ahead (lines_before t) (high t) (wide t) (p / line_clocks t) (cols (p % line_clocks t)) h
+      ∙ omega (arith, ap (λ (n : ℕ). n * wide t) (none_yet h)))
+      (λ h. all_past (lines_before t) (high t) (wide t) (p / line_clocks t) (cols (p % line_clocks t)) h
+      ∙ ap (λ (n : ℕ). n * wide t) (omega arith))
+      (other-is-outside (t.vspw + 1) (lines_before t) (high t) (p / line_clocks t) (omega arith) ne)
+    where
+      none_yet : p / line_clocks t < lines_before t → min (p / line_clocks t - lines_before t) (high t) ≡ 0
+      none_yet h = omega arith
 
   -- ---- the three laws
 

@@ -1,5 +1,5 @@
 -- The four signals at a clock (§6.7). Promises cite it, so a reader must believe it.
-use Rattle.std.specs.Prelude.{Bool, true, false, not, cond, ℕ, ◌-◌, ◌%◌, ◌^◌, eqb}
+use Rattle.std.specs.Prelude.{Bool, true, false, Option, Some, None, not, cond, ℕ, ◌-◌, ◌%◌, ◌^◌, eqb}
 use Rattle.panel.specs.Timing.{timing}
 use Rattle.registers.specs.Fields.{invvframe, invvline, invvden, invvd}
 use Rattle.registers.specs.declared.Words.{Words}
@@ -8,8 +8,7 @@ use Rattle.signals.specs.Pixel.{spot_of}
 use Rattle.signals.specs.declared.clock.Clock.{Clock}
 use Rattle.signals.specs.declared.parts.Part.{Part}
 use Rattle.signals.specs.declared.parts.Part.TheVariants.{Sync, BackPorch, Active, FrontPorch}
-use Rattle.signals.specs.declared.pixel.Spot.{Spot}
-use Rattle.signals.specs.declared.pixel.Spot.TheVariants.{Pixel, Blank}
+use Rattle.panel.specs.declared.geometry.Place.{Place}
 
 -- a level (§6.7): 1 where the signal is active, else 0; inverted where the signal's INV bit is set
 unfoldable pub level : ℕ → Bool → ℕ
@@ -27,9 +26,9 @@ in_sync (Active k) = false
 in_sync FrontPorch = false
 
 -- the clock shows a pixel
-unfoldable pub shows_pixel : Spot → Bool
-shows_pixel (Pixel r c) = true
-shows_pixel Blank = false
+unfoldable pub shows_pixel : Option Place → Bool
+shows_pixel (Some p) = true
+shows_pixel None = false
 
 -- the four signals (§6.7), by the parts in which line and clock lie and by the colour before INVVD: VSYNC is active in a sync line,
 -- HSYNC at a sync clock, VDEN at a pixel

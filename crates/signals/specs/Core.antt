@@ -3,6 +3,14 @@
 use Rattle.std.specs.Prelude.{cond, ℕ, ◌+◌, ◌-◌, ◌*◌, ◌/◌, ◌%◌, min, ltb}
 use Rattle.panel.specs.Timing.{Timing, line_clocks}
 use Rattle.signals.specs.Parts.{lines_before, clocks_before}
+use Rattle.signals.specs.declared.parts.Layout.{Layout}
+
+-- how the lines of a frame, and the clocks of a line, follow one another (§6.5)
+abbrev pub lines_of : Timing → Layout
+lines_of t = record { sync = t.vspw + 1; before = lines_before t; active = t.lineval + 1 }
+
+abbrev pub clocks_of : Timing → Layout
+clocks_of t = record { sync = t.hspw + 1; before = clocks_before t; active = t.hozval + 1 }
 
 -- active clocks of an active line before the clock with this number
 unfoldable pub columns_before : ℕ → ℕ → ℕ → ℕ

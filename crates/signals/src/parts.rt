@@ -1,6 +1,7 @@
 // The parts of a line and of a frame (§6.5).
-ghost use Rattle.std.specs.Prelude.{◌≡◌};
+ghost use Rattle.std.specs.Prelude.{◌≡◌, ◌-◌, min};
 ghost use Rattle.panel.specs.Timing.{timing};
+ghost use Rattle.signals.specs.Core.{lines_of, clocks_of};
 ghost use Rattle.signals.specs.Parts.{part_at, lines_before, clocks_before, parts_at};
 
 use panel::geometry::{height, width};
@@ -30,20 +31,60 @@ pub fn clocks_before(w: Words) -> u32
     (w.hspw() + 1) + (w.hbpd() + 1)
 }
 
-// The part of the line, or clock, with this number: the first `sync` are in sync, `before` come before the active ones.
-fn part_at(sync: u32, before: u32, active: u32, number: u32) -> Part
-    ensures { result ≡ part_at sync before active number }
-{
-    if number < sync {
-        return Part::Sync;
+// How the lines of a frame, or the clocks of a line, follow one another: the first `sync` are in sync, `before` come before the active
+// ones, and `active` are active.
+#[derive(Clone, Copy)]
+pub(crate) struct Layout {
+    sync: u32,
+    before: u32,
+    pub(crate) active: u32,
+}
+
+impl Layout {
+    // The lines of a frame.
+    pub(crate) fn lines_of(w: Words) -> Layout
+        ensures { result ≡ lines_of (timing w) }
+    {
+        Layout {
+            sync: w.vspw() + 1,
+            before: lines_before(w),
+            active: height(w),
+        }
     }
-    if number < before {
-        return Part::BackPorch;
+
+    // The clocks of a line.
+    pub(crate) fn clocks_of(w: Words) -> Layout
+        ensures { result ≡ clocks_of (timing w) }
+    {
+        Layout {
+            sync: w.hspw() + 1,
+            before: clocks_before(w),
+            active: width(w),
+        }
     }
-    if number - before < active {
-        return Part::Active(number - before);
+
+    // The part of the line, or clock, with this number.
+    #[tactic(auto, unfolding(crate::specs::Parts::part_at))]
+    pub(crate) fn part_at(self, number: u32) -> Part
+        ensures { result ≡ part_at self.sync self.before self.active number }
+    {
+        if number < self.sync {
+            Part::Sync
+        } else if number < self.before {
+            Part::BackPorch
+        } else if number - self.before < self.active {
+            Part::Active(number - self.before)
+        } else {
+            Part::FrontPorch
+        }
     }
-    Part::FrontPorch
+
+    // How many active ones come before that with this number.
+    pub(crate) fn active_before(self, number: u32) -> u32
+        ensures { result ≡ min (number - self.before) self.active }
+    {
+        number.saturating_sub(self.before).min(self.active)
+    }
 }
 
 // Where a position lies: the part of its line in the frame, and of its clock in the line.
@@ -54,11 +95,12 @@ pub struct Parts {
 }
 
 // The parts in which a position's line and clock lie.
+#[tactic(auto, unfolding(panel::specs::Timing::line_clocks, crate::specs::Parts::line_part, crate::specs::Parts::clock_part))]
 pub fn parts_at(w: Words, position: u32) -> Parts
     ensures { result ≡ parts_at (timing w) position }
 {
     let size = line_clocks(w);
-    let line = part_at(w.vspw() + 1, lines_before(w), height(w), position / size);
-    let clock = part_at(w.hspw() + 1, clocks_before(w), width(w), position % size);
+    let line = Layout::lines_of(w).part_at(position / size);
+    let clock = Layout::clocks_of(w).part_at(position % size);
     Parts { line, clock }
 }

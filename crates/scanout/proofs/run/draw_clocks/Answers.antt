@@ -1,8 +1,6 @@
 -- `scanout::run::draw_clocks` meets its contract.
-use mathlib.Core.Path.{ap, ap₂, ◌∙◌}
-use Prim.Native.Nat.{ℕ, ◌+◌, ◌-◌}
-use native.Mathlib.Omega.{arith}
-use Rattle.drawing.specs.Colour.{lending}
+use Rattle.std.proofs.Common.{ℕ, ◌+◌, ◌-◌, ap, ap₂, ◌∙◌, arith}
+use Rattle.drawing.specs.Colour.{contents}
 use Rattle.drawing.specs.Drawing.{draw_stretch}
 use Rattle.memory.specs.declared.Screen.{Screen}
 use Rattle.panel.proofs.Bounds.{frame-clocks-le}
@@ -13,8 +11,7 @@ use Rattle.scanout.proofs.Stretch.{first, many}
 use Rattle.scanout.proofs.run.draw_clocks.Goals as goal
 
 pub overflow_add-s : goal.overflow_add-s
-overflow_add-s c =
-    omega (arith, c.requires.1, frame-clocks-le c.args.s.screen.words)
+overflow_add-s c = omega (arith, c.requires.0, frame-clocks-le c.args.s.screen.words)
 
 pub overflow_sub-end : goal.overflow_sub-end
 overflow_sub-end c =
@@ -29,8 +26,8 @@ overflow_sub-end c =
 pub returns : goal.returns
 returns c =
     let a = c.args in
-    let l = lending a.video.now a.palette.now in
+    let l = contents a.lent in
     c.draw_stretch.ensures
-    ∙ ap₂ (λ (i j : ℕ). draw_stretch a.shown l i (j - i) a.picture.now) c.pixels_before-first.ensures c.pixels_before-end.ensures
-    ∙ ap (λ (x : Screen). draw_stretch x l (first a.s l) (many a.s l a.count) a.picture.now) c.requires.0
-    ∙ run-drawn a.s l a.count a.picture.now c.requires.1 c.requires.2
+    ∙ ap₂ (λ (i j : ℕ). draw_stretch c.shown_screen.result l i (j - i) a.picture.now) c.pixels_before-first.ensures c.pixels_before-end.ensures
+    ∙ ap (λ (x : Screen). draw_stretch x l (first a.s l) (many a.s l a.count) a.picture.now) c.shown_screen.ensures
+    ∙ run-drawn a.s l a.count a.picture.now c.requires.0 c.requires.1

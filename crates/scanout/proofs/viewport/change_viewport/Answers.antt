@@ -1,13 +1,15 @@
 -- `scanout::viewport::change_viewport` meets its contract.
-use mathlib.Core.Path.{refl}
-use Rattle.laws.proofs.AnswerLaws.{gives-refusal, gives-answer}
+use Rattle.std.proofs.Common.{refl}
+use Rattle.laws.proofs.AnswerLaws.{gives-answer}
+use Rattle.registers.proofs.Refusals.{refused-as}
 use Rattle.scanout.specs.Calls.{change}
 use Rattle.scanout.proofs.viewport.change_viewport.Goals as goal
 
-pub returns-then-refusal-ne0 : goal.returns-then-refusal-ne0
+pub returns-in_err-judge_change : goal.returns-in_err-judge_change
 unfolding change
-returns-then-refusal-ne0 c = gives-refusal _ _ _ c.judge_change-refusal.ensures c.if-refusal-ne0.true
+returns-in_err-judge_change c =
+    refused-as c.from_residual.result c.in_err-judge_change.field-0.0 _ _ c.from_residual.ensures.1 c.in_err-judge_change.ensures
 
 pub returns : goal.returns
 unfolding change
-returns c = gives-answer _ _ _ _ c.judge_change-refusal.ensures c.if-refusal-ne0.false refl
+returns c = gives-answer 0 _ _ _ c.in_ok-judge_change.ensures refl refl
