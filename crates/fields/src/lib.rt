@@ -2,16 +2,17 @@
 #![tactic(auto)]
 
 ghost use Rattle.std.specs.Prelude.{◌≡◌};
-ghost use Rattle.fields.specs.Reading.{fields_read, read};
-ghost use Rattle.fields.specs.Writing.{words_written, write};
+ghost use Rattle.registers.specs.Refusals.{answer};
+ghost use Rattle.fields.specs.Reading.{read};
+ghost use Rattle.fields.specs.Writing.{write};
 
 use registers::Words;
+use registers::refusal::{Refusal, refuse_if};
 
 mod packing;
 mod unpacking;
-mod widths;
 
-#[derive(Clone, Copy)]
+#[derive(Clone, Copy, Debug, PartialEq, Eq)]
 pub struct Lcdcon1 {
     pub clkval: u32,
     pub mmode: u32,
@@ -20,7 +21,7 @@ pub struct Lcdcon1 {
     pub envid: u32,
 }
 
-#[derive(Clone, Copy)]
+#[derive(Clone, Copy, Debug, PartialEq, Eq)]
 pub struct Lcdcon2 {
     pub vbpd: u32,
     pub lineval: u32,
@@ -28,20 +29,20 @@ pub struct Lcdcon2 {
     pub vspw: u32,
 }
 
-#[derive(Clone, Copy)]
+#[derive(Clone, Copy, Debug, PartialEq, Eq)]
 pub struct Lcdcon3 {
     pub hbpd: u32,
     pub hozval: u32,
     pub hfpd: u32,
 }
 
-#[derive(Clone, Copy)]
+#[derive(Clone, Copy, Debug, PartialEq, Eq)]
 pub struct Lcdcon4 {
     pub mval: u32,
     pub hspw: u32,
 }
 
-#[derive(Clone, Copy)]
+#[derive(Clone, Copy, Debug, PartialEq, Eq)]
 pub struct Lcdcon5 {
     pub bpp24bl: u32,
     pub frm565: u32,
@@ -58,31 +59,31 @@ pub struct Lcdcon5 {
     pub hwswp: u32,
 }
 
-#[derive(Clone, Copy)]
+#[derive(Clone, Copy, Debug, PartialEq, Eq)]
 pub struct Lcdsaddr1 {
     pub lcdbank: u32,
     pub lcdbaseu: u32,
 }
 
-#[derive(Clone, Copy)]
+#[derive(Clone, Copy, Debug, PartialEq, Eq)]
 pub struct Lcdsaddr2 {
     pub lcdbasel: u32,
 }
 
-#[derive(Clone, Copy)]
+#[derive(Clone, Copy, Debug, PartialEq, Eq)]
 pub struct Lcdsaddr3 {
     pub offsize: u32,
     pub pagewidth: u32,
 }
 
-#[derive(Clone, Copy)]
+#[derive(Clone, Copy, Debug, PartialEq, Eq)]
 pub struct Tpal {
     pub tpalen: u32,
     pub tpalval: u32,
 }
 
 // The fields of all nine words.
-#[derive(Clone, Copy)]
+#[derive(Clone, Copy, Debug, PartialEq, Eq)]
 pub struct Fields {
     pub lcdcon1: Lcdcon1,
     pub lcdcon2: Lcdcon2,
@@ -95,36 +96,18 @@ pub struct Fields {
     pub tpal: Tpal,
 }
 
-// What reading gives: the fields, or a refusal's number.
-#[derive(Clone, Copy)]
-pub enum FieldsRead {
-    Read(Fields),
-    Refused(u32),
-}
-
-// What writing gives: the words, or a refusal's number.
-#[derive(Clone, Copy)]
-pub enum WordsWritten {
-    Wrote(Words),
-    Refused(u32),
-}
-
 // The writable fields of nine words, or 1 where a reserved bit is set. Read-only bits do not matter.
-pub fn read(w: Words) -> FieldsRead
-    ensures { fields_read result ≡ read w }
+pub fn read(w: Words) -> Result<Fields, Refusal>
+    ensures { answer result ≡ read w }
 {
-    if w.reserved_bit() {
-        return FieldsRead::Refused(1);
-    }
-    FieldsRead::Read(unpacking::fields_of(w))
+    refuse_if(w.reserved_bit(), Refusal::ReservedBit)?;
+    Ok(w.into())
 }
 
 // The nine words with these fields, read-only bits 0, or 12 where a field is too wide.
-pub fn write(f: Fields) -> WordsWritten
-    ensures { words_written result ≡ write f }
+pub fn write(f: Fields) -> Result<Words, Refusal>
+    ensures { answer result ≡ write f }
 {
-    if widths::field_too_wide(f) {
-        return WordsWritten::Refused(12);
-    }
-    WordsWritten::Wrote(packing::words_of(f))
+    refuse_if(f.too_wide(), Refusal::FieldTooWide)?;
+    Ok(f.packed())
 }
