@@ -12,7 +12,7 @@ use registers::refusal::{Refusal, refuse_if};
 mod packing;
 mod unpacking;
 
-#[derive(Clone, Copy, Debug, PartialEq, Eq)]
+#[derive(Clone, Copy)]
 pub struct Lcdcon1 {
     pub clkval: u32,
     pub mmode: u32,
@@ -21,7 +21,7 @@ pub struct Lcdcon1 {
     pub envid: u32,
 }
 
-#[derive(Clone, Copy, Debug, PartialEq, Eq)]
+#[derive(Clone, Copy)]
 pub struct Lcdcon2 {
     pub vbpd: u32,
     pub lineval: u32,
@@ -29,20 +29,20 @@ pub struct Lcdcon2 {
     pub vspw: u32,
 }
 
-#[derive(Clone, Copy, Debug, PartialEq, Eq)]
+#[derive(Clone, Copy)]
 pub struct Lcdcon3 {
     pub hbpd: u32,
     pub hozval: u32,
     pub hfpd: u32,
 }
 
-#[derive(Clone, Copy, Debug, PartialEq, Eq)]
+#[derive(Clone, Copy)]
 pub struct Lcdcon4 {
     pub mval: u32,
     pub hspw: u32,
 }
 
-#[derive(Clone, Copy, Debug, PartialEq, Eq)]
+#[derive(Clone, Copy)]
 pub struct Lcdcon5 {
     pub bpp24bl: u32,
     pub frm565: u32,
@@ -59,31 +59,31 @@ pub struct Lcdcon5 {
     pub hwswp: u32,
 }
 
-#[derive(Clone, Copy, Debug, PartialEq, Eq)]
+#[derive(Clone, Copy)]
 pub struct Lcdsaddr1 {
     pub lcdbank: u32,
     pub lcdbaseu: u32,
 }
 
-#[derive(Clone, Copy, Debug, PartialEq, Eq)]
+#[derive(Clone, Copy)]
 pub struct Lcdsaddr2 {
     pub lcdbasel: u32,
 }
 
-#[derive(Clone, Copy, Debug, PartialEq, Eq)]
+#[derive(Clone, Copy)]
 pub struct Lcdsaddr3 {
     pub offsize: u32,
     pub pagewidth: u32,
 }
 
-#[derive(Clone, Copy, Debug, PartialEq, Eq)]
+#[derive(Clone, Copy)]
 pub struct Tpal {
     pub tpalen: u32,
     pub tpalval: u32,
 }
 
 // The fields of all nine words.
-#[derive(Clone, Copy, Debug, PartialEq, Eq)]
+#[derive(Clone, Copy)]
 pub struct Fields {
     pub lcdcon1: Lcdcon1,
     pub lcdcon2: Lcdcon2,
