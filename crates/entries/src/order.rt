@@ -9,6 +9,7 @@ use fields::{
     Fields, Lcdcon1, Lcdcon2, Lcdcon3, Lcdcon4, Lcdcon5, Lcdsaddr1, Lcdsaddr2, Lcdsaddr3, Tpal,
 };
 
+// The numbers of the fields, in that order.
 #[derive(Clone, Copy)]
 pub(crate) struct Entries(pub(crate) [u32; 34]);
 
