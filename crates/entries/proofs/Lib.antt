@@ -1,2 +1,3 @@
 pub mod Examples
+pub mod Fronts
 pub mod ReadBackLaws

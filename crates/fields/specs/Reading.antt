@@ -1,6 +1,6 @@
 -- Reading the fields of the nine words (§1.4), judged by refusal 1 alone (§9.3). Promises cite it, so a reader must believe it.
 use Rattle.std.specs.Prelude.{[], ◌∷◌}
-use Rattle.laws.specs.Answers.{Answer, accepted, refused, judged}
+use Rattle.laws.specs.Answers.{Answer, judged}
 use Rattle.laws.specs.Cases.{◌when◌, lowest}
 use Rattle.registers.specs.declared.Words.{Words}
 use Rattle.registers.specs.Fields as Fields
@@ -15,13 +15,6 @@ use Rattle.fields.specs.declared.Lcdsaddr1.{Lcdsaddr1}
 use Rattle.fields.specs.declared.Lcdsaddr2.{Lcdsaddr2}
 use Rattle.fields.specs.declared.Lcdsaddr3.{Lcdsaddr3}
 use Rattle.fields.specs.declared.Tpal.{Tpal}
-use Rattle.fields.specs.declared.FieldsRead.{FieldsRead}
-use Rattle.fields.specs.declared.FieldsRead.TheVariants.{Read, Refused}
-
--- the answer as a value or the number of a refusal
-abbrev pub fields_read : FieldsRead → Answer Fields
-fields_read (Read f) = accepted f
-fields_read (Refused n) = refused n
 
 -- the writable fields of each word; read-only ones are left out (§1.3)
 abbrev pub lcdcon1_of : Words → Lcdcon1

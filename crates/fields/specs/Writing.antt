@@ -1,7 +1,7 @@
 -- The writer (§1.5): words from fields, read-only bits 0 (§1.3); judged by refusal 12 alone (§9.3). Promises cite it, so a reader must
 -- believe it.
 use Rattle.std.specs.Prelude.{Bool, ◌&&◌, ◌||◌, List, [], ◌∷◌, ℕ, eqb, leb, ltb}
-use Rattle.laws.specs.Answers.{Answer, accepted, refused, judged}
+use Rattle.laws.specs.Answers.{Answer, judged}
 use Rattle.laws.specs.BitFields.{pack, too_wide}
 use Rattle.laws.specs.Booleans.{any}
 use Rattle.laws.specs.Cases.{◌when◌, lowest}
@@ -17,13 +17,6 @@ use Rattle.fields.specs.declared.Lcdsaddr1.{Lcdsaddr1}
 use Rattle.fields.specs.declared.Lcdsaddr2.{Lcdsaddr2}
 use Rattle.fields.specs.declared.Lcdsaddr3.{Lcdsaddr3}
 use Rattle.fields.specs.declared.Tpal.{Tpal}
-use Rattle.fields.specs.declared.WordsWritten.{WordsWritten}
-use Rattle.fields.specs.declared.WordsWritten.TheVariants.{Wrote, Refused}
-
--- the answer as a value or the number of a refusal
-abbrev pub words_written : WordsWritten → Answer Words
-words_written (Wrote w) = accepted w
-words_written (Refused n) = refused n
 
 -- the values of each word's fields, from the highest bits down: the order of the free spans in its layout
 abbrev pub lcdcon1_values : Lcdcon1 → List ℕ

@@ -2,14 +2,15 @@
 #![tactic(auto)]
 
 ghost use Rattle.std.specs.Prelude.{◌≡◌};
-ghost use Rattle.fields.specs.Reading.{fields_read, read};
-ghost use Rattle.fields.specs.Writing.{words_written, write};
+ghost use Rattle.registers.specs.Refusals.{answer};
+ghost use Rattle.fields.specs.Reading.{read};
+ghost use Rattle.fields.specs.Writing.{write};
 
 use registers::Words;
+use registers::refusal::{Refusal, refuse_if};
 
 mod packing;
 mod unpacking;
-mod widths;
 
 #[derive(Clone, Copy)]
 pub struct Lcdcon1 {
@@ -95,36 +96,18 @@ pub struct Fields {
     pub tpal: Tpal,
 }
 
-// What reading gives: the fields, or a refusal's number.
-#[derive(Clone, Copy)]
-pub enum FieldsRead {
-    Read(Fields),
-    Refused(u32),
-}
-
-// What writing gives: the words, or a refusal's number.
-#[derive(Clone, Copy)]
-pub enum WordsWritten {
-    Wrote(Words),
-    Refused(u32),
-}
-
 // The writable fields of nine words, or 1 where a reserved bit is set. Read-only bits do not matter.
-pub fn read(w: Words) -> FieldsRead
-    ensures { fields_read result ≡ read w }
+pub fn read(w: Words) -> Result<Fields, Refusal>
+    ensures { answer result ≡ read w }
 {
-    if w.reserved_bit() {
-        return FieldsRead::Refused(1);
-    }
-    FieldsRead::Read(unpacking::fields_of(w))
+    refuse_if(w.reserved_bit(), Refusal::ReservedBit)?;
+    Ok(w.into())
 }
 
 // The nine words with these fields, read-only bits 0, or 12 where a field is too wide.
-pub fn write(f: Fields) -> WordsWritten
-    ensures { words_written result ≡ write f }
+pub fn write(f: Fields) -> Result<Words, Refusal>
+    ensures { answer result ≡ write f }
 {
-    if widths::field_too_wide(f) {
-        return WordsWritten::Refused(12);
-    }
-    WordsWritten::Wrote(packing::words_of(f))
+    refuse_if(f.too_wide(), Refusal::FieldTooWide)?;
+    Ok(f.packed())
 }

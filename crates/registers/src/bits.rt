@@ -1,5 +1,6 @@
 // The fields of the nine words by bit (§1.2, §1.7): `cut` shifts and masks.
-ghost use Rattle.std.specs.Prelude.{◌≡◌, suc, ◌-◌, ◌/◌, ◌%◌, ◌^◌, ◌≤◌, ◌<◌};
+ghost use Rattle.std.specs.Prelude.{◌≡◌, suc, ◌+◌, ◌-◌, ◌*◌, ◌/◌, ◌%◌, ◌^◌, ◌≤◌, ◌<◌, leb, ltb};
+ghost use Rattle.std.specs.List.{list_any};
 ghost use Rattle.laws.specs.Booleans.{any};
 ghost use Rattle.registers.specs.Fields.{linecnt, clkval, mmode, pnrmode, bppmode, envid};
 ghost use Rattle.registers.specs.Fields.{vbpd, lineval, vfpd, vspw};
@@ -15,12 +16,131 @@ ghost use Rattle.registers.specs.Fields.{stn, reserved_words, stn_reserved_words
 
 use super::Words;
 
-// Bits high down to low of a word.
-fn cut(word: u32, high: u32, low: u32) -> u32
-    requires { (low ≤ high) × (high < 32) × (high - low < 31) }
-    ensures { result ≡ word / 2 ^ low % 2 ^ (suc high - low) }
+// Bits of a word, by the highest and the lowest of them. Fewer than all 32.
+#[derive(Clone, Copy)]
+pub struct Bits {
+    pub high: u32,
+    pub low: u32,
+    pub ghost in_word: { (low ≤ high) × (high < 32) × (high - low < 31) },
+}
+
+impl Bits {
+    // What they hold in a word, as a number (§1.2).
+    pub fn of(self, word: u32) -> u32
+        ensures { result ≡ word / 2 ^ self.low % 2 ^ (suc self.high - self.low) }
+    {
+        (word >> self.low) & ((1 << (self.high - self.low + 1)) - 1)
+    }
+
+    // A value in them, above the bits of a word below them (§1.5).
+    pub fn put(self, value: u32, below: u32) -> u32
+        ensures { (value < 2 ^ (suc self.high - self.low)) × (below < 2 ^ self.low) → (result ≡ value * 2 ^ self.low + below) × (result < 2 ^ suc self.high) }
+    {
+        value << self.low | below
+    }
+
+    // The value does not fit them (§1.5).
+    pub fn exceeded_by(self, value: u32) -> bool
+        ensures { result ≡ leb (2 ^ (suc self.high - self.low)) value }
+    {
+        0 < value >> (self.high - self.low + 1)
+    }
+}
+
+// LCDCON1
+pub const LINECNT: Bits = Bits { high: 27, low: 18 };
+
+pub const CLKVAL: Bits = Bits { high: 17, low: 8 };
+
+pub const MMODE: Bits = Bits { high: 7, low: 7 };
+
+pub const PNRMODE: Bits = Bits { high: 6, low: 5 };
+
+pub const BPPMODE: Bits = Bits { high: 4, low: 1 };
+
+pub const ENVID: Bits = Bits { high: 0, low: 0 };
+
+// LCDCON2
+pub const VBPD: Bits = Bits { high: 31, low: 24 };
+
+pub const LINEVAL: Bits = Bits { high: 23, low: 14 };
+
+pub const VFPD: Bits = Bits { high: 13, low: 6 };
+
+pub const VSPW: Bits = Bits { high: 5, low: 0 };
+
+// LCDCON3
+pub const HBPD: Bits = Bits { high: 25, low: 19 };
+
+pub const HOZVAL: Bits = Bits { high: 18, low: 8 };
+
+pub const HFPD: Bits = Bits { high: 7, low: 0 };
+
+pub const WDLY: Bits = Bits { high: 20, low: 19 };
+
+pub const LINEBLANK: Bits = Bits { high: 7, low: 0 };
+
+// LCDCON4
+pub const MVAL: Bits = Bits { high: 15, low: 8 };
+
+pub const HSPW: Bits = Bits { high: 7, low: 0 };
+
+pub const WLH: Bits = Bits { high: 1, low: 0 };
+
+// LCDCON5
+pub const VSTATUS: Bits = Bits { high: 16, low: 15 };
+
+pub const HSTATUS: Bits = Bits { high: 14, low: 13 };
+
+pub const BPP24BL: Bits = Bits { high: 12, low: 12 };
+
+pub const FRM565: Bits = Bits { high: 11, low: 11 };
+
+pub const INVVCLK: Bits = Bits { high: 10, low: 10 };
+
+pub const INVVLINE: Bits = Bits { high: 9, low: 9 };
+
+pub const INVVFRAME: Bits = Bits { high: 8, low: 8 };
+
+pub const INVVD: Bits = Bits { high: 7, low: 7 };
+
+pub const INVVDEN: Bits = Bits { high: 6, low: 6 };
+
+pub const INVPWREN: Bits = Bits { high: 5, low: 5 };
+
+pub const INVLEND: Bits = Bits { high: 4, low: 4 };
+
+pub const PWREN: Bits = Bits { high: 3, low: 3 };
+
+pub const ENLEND: Bits = Bits { high: 2, low: 2 };
+
+pub const BSWP: Bits = Bits { high: 1, low: 1 };
+
+pub const HWSWP: Bits = Bits { high: 0, low: 0 };
+
+// LCDSADDR1
+pub const LCDBANK: Bits = Bits { high: 29, low: 21 };
+
+pub const LCDBASEU: Bits = Bits { high: 20, low: 0 };
+
+// LCDSADDR2
+pub const LCDBASEL: Bits = Bits { high: 20, low: 0 };
+
+// LCDSADDR3
+pub const OFFSIZE: Bits = Bits { high: 21, low: 11 };
+
+pub const PAGEWIDTH: Bits = Bits { high: 10, low: 0 };
+
+// TPAL
+pub const TPALEN: Bits = Bits { high: 24, low: 24 };
+
+pub const TPALVAL: Bits = Bits { high: 23, low: 0 };
+
+// One of the numbers is not 0.
+fn some_set(numbers: &[u32]) -> bool
+    ensures { result ≡ list_any (λ n. ltb 0 n) numbers.now }
 {
-    (word >> low) & ((1 << (high - low + 1)) - 1)
+    numbers.iter().any(|n| 0 < *n)
 }
 
 impl Words {
@@ -29,37 +149,37 @@ impl Words {
     pub fn linecnt(self) -> u32
         ensures { result ≡ linecnt self }
     {
-        cut(self.lcdcon1, 27, 18)
+        LINECNT.of(self.lcdcon1)
     }
 
     pub fn clkval(self) -> u32
         ensures { result ≡ clkval self }
     {
-        cut(self.lcdcon1, 17, 8)
+        CLKVAL.of(self.lcdcon1)
     }
 
     pub fn mmode(self) -> u32
         ensures { result ≡ mmode self }
     {
-        cut(self.lcdcon1, 7, 7)
+        MMODE.of(self.lcdcon1)
     }
 
     pub fn pnrmode(self) -> u32
         ensures { result ≡ pnrmode self }
     {
-        cut(self.lcdcon1, 6, 5)
+        PNRMODE.of(self.lcdcon1)
     }
 
     pub fn bppmode(self) -> u32
         ensures { result ≡ bppmode self }
     {
-        cut(self.lcdcon1, 4, 1)
+        BPPMODE.of(self.lcdcon1)
     }
 
     pub fn envid(self) -> u32
         ensures { result ≡ envid self }
     {
-        cut(self.lcdcon1, 0, 0)
+        ENVID.of(self.lcdcon1)
     }
 
     // ---- LCDCON2
@@ -67,25 +187,25 @@ impl Words {
     pub fn vbpd(self) -> u32
         ensures { result ≡ vbpd self }
     {
-        cut(self.lcdcon2, 31, 24)
+        VBPD.of(self.lcdcon2)
     }
 
     pub fn lineval(self) -> u32
         ensures { result ≡ lineval self }
     {
-        cut(self.lcdcon2, 23, 14)
+        LINEVAL.of(self.lcdcon2)
     }
 
     pub fn vfpd(self) -> u32
         ensures { result ≡ vfpd self }
     {
-        cut(self.lcdcon2, 13, 6)
+        VFPD.of(self.lcdcon2)
     }
 
     pub fn vspw(self) -> u32
         ensures { result ≡ vspw self }
     {
-        cut(self.lcdcon2, 5, 0)
+        VSPW.of(self.lcdcon2)
     }
 
     // ---- LCDCON3
@@ -93,33 +213,33 @@ impl Words {
     pub fn hbpd(self) -> u32
         ensures { result ≡ hbpd self }
     {
-        cut(self.lcdcon3, 25, 19)
+        HBPD.of(self.lcdcon3)
     }
 
     pub fn hozval(self) -> u32
         ensures { result ≡ hozval self }
     {
-        cut(self.lcdcon3, 18, 8)
+        HOZVAL.of(self.lcdcon3)
     }
 
     pub fn hfpd(self) -> u32
         ensures { result ≡ hfpd self }
     {
-        cut(self.lcdcon3, 7, 0)
+        HFPD.of(self.lcdcon3)
     }
 
     // On STN.
     pub fn wdly(self) -> u32
         ensures { result ≡ wdly self }
     {
-        cut(self.lcdcon3, 20, 19)
+        WDLY.of(self.lcdcon3)
     }
 
     // On STN.
     pub fn lineblank(self) -> u32
         ensures { result ≡ lineblank self }
     {
-        cut(self.lcdcon3, 7, 0)
+        LINEBLANK.of(self.lcdcon3)
     }
 
     // ---- LCDCON4
@@ -127,20 +247,20 @@ impl Words {
     pub fn mval(self) -> u32
         ensures { result ≡ mval self }
     {
-        cut(self.lcdcon4, 15, 8)
+        MVAL.of(self.lcdcon4)
     }
 
     pub fn hspw(self) -> u32
         ensures { result ≡ hspw self }
     {
-        cut(self.lcdcon4, 7, 0)
+        HSPW.of(self.lcdcon4)
     }
 
     // On STN.
     pub fn wlh(self) -> u32
         ensures { result ≡ wlh self }
     {
-        cut(self.lcdcon4, 1, 0)
+        WLH.of(self.lcdcon4)
     }
 
     // ---- LCDCON5
@@ -148,91 +268,91 @@ impl Words {
     pub fn vstatus(self) -> u32
         ensures { result ≡ vstatus self }
     {
-        cut(self.lcdcon5, 16, 15)
+        VSTATUS.of(self.lcdcon5)
     }
 
     pub fn hstatus(self) -> u32
         ensures { result ≡ hstatus self }
     {
-        cut(self.lcdcon5, 14, 13)
+        HSTATUS.of(self.lcdcon5)
     }
 
     pub fn bpp24bl(self) -> u32
         ensures { result ≡ bpp24bl self }
     {
-        cut(self.lcdcon5, 12, 12)
+        BPP24BL.of(self.lcdcon5)
     }
 
     pub fn frm565(self) -> u32
         ensures { result ≡ frm565 self }
     {
-        cut(self.lcdcon5, 11, 11)
+        FRM565.of(self.lcdcon5)
     }
 
     pub fn invvclk(self) -> u32
         ensures { result ≡ invvclk self }
     {
-        cut(self.lcdcon5, 10, 10)
+        INVVCLK.of(self.lcdcon5)
     }
 
     pub fn invvline(self) -> u32
         ensures { result ≡ invvline self }
     {
-        cut(self.lcdcon5, 9, 9)
+        INVVLINE.of(self.lcdcon5)
     }
 
     pub fn invvframe(self) -> u32
         ensures { result ≡ invvframe self }
     {
-        cut(self.lcdcon5, 8, 8)
+        INVVFRAME.of(self.lcdcon5)
     }
 
     pub fn invvd(self) -> u32
         ensures { result ≡ invvd self }
     {
-        cut(self.lcdcon5, 7, 7)
+        INVVD.of(self.lcdcon5)
     }
 
     pub fn invvden(self) -> u32
         ensures { result ≡ invvden self }
     {
-        cut(self.lcdcon5, 6, 6)
+        INVVDEN.of(self.lcdcon5)
     }
 
     pub fn invpwren(self) -> u32
         ensures { result ≡ invpwren self }
     {
-        cut(self.lcdcon5, 5, 5)
+        INVPWREN.of(self.lcdcon5)
     }
 
     pub fn invlend(self) -> u32
         ensures { result ≡ invlend self }
     {
-        cut(self.lcdcon5, 4, 4)
+        INVLEND.of(self.lcdcon5)
     }
 
     pub fn pwren(self) -> u32
         ensures { result ≡ pwren self }
     {
-        cut(self.lcdcon5, 3, 3)
+        PWREN.of(self.lcdcon5)
     }
 
     pub fn enlend(self) -> u32
         ensures { result ≡ enlend self }
     {
-        cut(self.lcdcon5, 2, 2)
+        ENLEND.of(self.lcdcon5)
     }
 
     pub fn bswp(self) -> u32
         ensures { result ≡ bswp self }
     {
-        cut(self.lcdcon5, 1, 1)
+        BSWP.of(self.lcdcon5)
     }
 
     pub fn hwswp(self) -> u32
         ensures { result ≡ hwswp self }
     {
-        cut(self.lcdcon5, 0, 0)
+        HWSWP.of(self.lcdcon5)
     }
 
     // ---- LCDSADDR1
@@ -240,13 +360,13 @@ impl Words {
     pub fn lcdbank(self) -> u32
         ensures { result ≡ lcdbank self }
     {
-        cut(self.lcdsaddr1, 29, 21)
+        LCDBANK.of(self.lcdsaddr1)
     }
 
     pub fn lcdbaseu(self) -> u32
         ensures { result ≡ lcdbaseu self }
     {
-        cut(self.lcdsaddr1, 20, 0)
+        LCDBASEU.of(self.lcdsaddr1)
     }
 
     // ---- LCDSADDR2
@@ -254,7 +374,7 @@ impl Words {
     pub fn lcdbasel(self) -> u32
         ensures { result ≡ lcdbasel self }
     {
-        cut(self.lcdsaddr2, 20, 0)
+        LCDBASEL.of(self.lcdsaddr2)
     }
 
     // ---- LCDSADDR3
@@ -262,13 +382,13 @@ impl Words {
     pub fn offsize(self) -> u32
         ensures { result ≡ offsize self }
     {
-        cut(self.lcdsaddr3, 21, 11)
+        OFFSIZE.of(self.lcdsaddr3)
     }
 
     pub fn pagewidth(self) -> u32
         ensures { result ≡ pagewidth self }
     {
-        cut(self.lcdsaddr3, 10, 0)
+        PAGEWIDTH.of(self.lcdsaddr3)
     }
 
     // ---- TPAL
@@ -276,18 +396,19 @@ impl Words {
     pub fn tpalen(self) -> u32
         ensures { result ≡ tpalen self }
     {
-        cut(self.tpal, 24, 24)
+        TPALEN.of(self.tpal)
     }
 
     pub fn tpalval(self) -> u32
         ensures { result ≡ tpalval self }
     {
-        cut(self.tpal, 23, 0)
+        TPALVAL.of(self.tpal)
     }
 
     // ---- all nine
 
     // PNRMODE selects an STN panel (§1.7).
+    #[tactic(auto, unfolding(crate::specs::Fields::stn))]
     pub fn stn(self) -> bool
         ensures { result ≡ stn self }
     {
@@ -298,28 +419,32 @@ impl Words {
     fn reserved_anywhere(self) -> bool
         ensures { result ≡ any (reserved_words self) }
     {
-        let bits = cut(self.tpal, 31, 25);
-        let bits = cut(self.lcdsaddr3, 31, 22) | bits;
-        let bits = cut(self.lcdsaddr2, 31, 21) | bits;
-        let bits = cut(self.lcdsaddr1, 31, 30) | bits;
-        let bits = cut(self.lcdcon5, 31, 17) | bits;
-        let bits = cut(self.lcdcon4, 31, 16) | bits;
-        let bits = cut(self.lcdcon3, 31, 26) | bits;
-        let bits = cut(self.lcdcon1, 31, 28) | bits;
-        0 < bits
+        some_set(&[
+            Bits { high: 31, low: 28 }.of(self.lcdcon1),
+            Bits { high: 31, low: 26 }.of(self.lcdcon3),
+            Bits { high: 31, low: 16 }.of(self.lcdcon4),
+            Bits { high: 31, low: 17 }.of(self.lcdcon5),
+            Bits { high: 31, low: 30 }.of(self.lcdsaddr1),
+            Bits { high: 31, low: 21 }.of(self.lcdsaddr2),
+            Bits { high: 31, low: 22 }.of(self.lcdsaddr3),
+            Bits { high: 31, low: 25 }.of(self.tpal),
+        ])
     }
 
     // A bit is set that is reserved on an STN panel (§1.7).
     fn reserved_on_stn(self) -> bool
         ensures { result ≡ any (stn_reserved_words self) }
     {
-        let bits = self.tpal;
-        let bits = cut(self.lcdcon4, 7, 2) | cut(self.lcdcon4, 31, 16) | bits;
-        let bits = cut(self.lcdcon3, 31, 21) | bits;
-        0 < bits
+        some_set(&[
+            Bits { high: 31, low: 21 }.of(self.lcdcon3),
+            Bits { high: 7, low: 2 }.of(self.lcdcon4),
+            Bits { high: 31, low: 16 }.of(self.lcdcon4),
+            self.tpal,
+        ])
     }
 
     // Refusal 1 (§1.3): some word has a reserved bit set.
+    #[tactic(auto, unfolding(crate::specs::Fields::reserved_bit))]
     pub fn reserved_bit(self) -> bool
         ensures { result ≡ reserved_bit self }
     {

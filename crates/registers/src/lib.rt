@@ -6,7 +6,7 @@ ghost use Rattle.laws.specs.Answers.{leaves};
 ghost use Rattle.registers.specs.Loading.{nine_words, word_entries, load, put_entries};
 ghost use Rattle.registers.specs.Refusals.{answer, code};
 
-mod bits;
+pub mod bits;
 pub mod refusal;
 
 use refusal::{Refusal, refuse_if};

@@ -1,17 +1,14 @@
 -- `entries::reading::read_fields` meets its contract.
-use mathlib.Core.Path.{sym, ap, ◌∙◌}
-use Rattle.laws.proofs.AnswerLaws.{writes-on, leaves-on}
-use Rattle.registers.specs.Loading.{loaded}
+use Rattle.laws.proofs.AnswerLaws.{writes-on}
+use Rattle.registers.proofs.Refusals.{outcome-passes}
 use Rattle.entries.specs.Reading.{read_fields}
 use Rattle.entries.proofs.reading.read_fields.Goals as goal
 
-pub returns-in-Nine : goal.returns-in-Nine
+pub returns-in_err-w : goal.returns-in_err-w
 unfolding read_fields
-returns-in-Nine c =
-    writes-on _ _ _ c.in-Nine.w _ (sym (ap loaded c.in-Nine.is) ∙ c.load.ensures)
-    c.read_fields_of.ensures
+returns-in_err-w c =
+    outcome-passes c.from_residual.result c.in_err-w.field-0.0 _ _ _ c.from_residual.ensures.1 c.in_err-w.ensures
 
-pub returns-in-Refused : goal.returns-in-Refused
+pub returns : goal.returns
 unfolding read_fields
-returns-in-Refused c =
-    leaves-on _ _ _ c.in-Refused.n (sym (ap loaded c.in-Refused.is) ∙ c.load.ensures)
+returns c = writes-on _ _ _ c.in_ok-w.w _ c.in_ok-w.ensures c.read_fields_of.ensures

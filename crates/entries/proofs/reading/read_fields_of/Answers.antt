@@ -1,17 +1,15 @@
 -- `entries::reading::read_fields_of` meets its contract.
-use mathlib.Core.Path.{sym, ap, ◌∙◌}
-use Rattle.laws.proofs.AnswerLaws.{writes-on, leaves-on}
-use Rattle.fields.specs.Reading.{fields_read}
+use Rattle.laws.proofs.AnswerLaws.{writes-on}
+use Rattle.registers.proofs.Refusals.{outcome-passes}
 use Rattle.entries.specs.Reading.{read_fields_of}
 use Rattle.entries.proofs.reading.read_fields_of.Goals as goal
 
-pub returns-in-Read : goal.returns-in-Read
+pub returns-in_err-f : goal.returns-in_err-f
 unfolding read_fields_of
-returns-in-Read c =
-    writes-on _ _ _ c.in-Read.f _ (sym (ap fields_read c.in-Read.is) ∙ c.read.ensures)
-    (rw c.field_entries.ensures at c.put_entries.ensures)
+returns-in_err-f c =
+    outcome-passes c.from_residual.result c.in_err-f.field-0.0 _ _ _ c.from_residual.ensures.1 c.in_err-f.ensures
 
-pub returns-in-Refused : goal.returns-in-Refused
+pub returns : goal.returns
 unfolding read_fields_of
-returns-in-Refused c =
-    leaves-on _ _ _ c.in-Refused.n (sym (ap fields_read c.in-Refused.is) ∙ c.read.ensures)
+returns c =
+    writes-on _ _ _ c.in_ok-f.f _ c.in_ok-f.ensures (rw c.from.ensures at c.put_entries.ensures)
