@@ -11,7 +11,8 @@ use Rattle.drawing.specs.Drawing.{palette_wrong}
 use Rattle.scanout.specs.Refusals.{judge_scan}
 use Rattle.scanout.specs.declared.state.State.{State}
 use Rattle.scanout.proofs.Acceptance.{passed}
-use Rattle.scans.specs.Scan.{state_of, short_of_state, load_scan}
+use Rattle.scans.specs.Scan.{short_of_state, load_scan}
+use Rattle.scanout.specs.State.{state_of, entries_of}
 
 -- a call that goes on with the state in the scan's slice
 module _ {A : Type 0} (scan : List ℕ) (f : State → Answer A) where

@@ -10,7 +10,8 @@ use Rattle.laws.proofs.AnswerLaws.{one-accepts}
 use Rattle.laws.specs.StoringLaws.{length-stores, entry-stored}
 use Rattle.registers.specs.Loading.{too_short}
 use Rattle.scanout.specs.declared.state.State.{State}
-use Rattle.scans.specs.Scan.{state_of, entries_of, put_state, load_scan}
+use Rattle.scans.specs.Scan.{put_state, load_scan}
+use Rattle.scanout.specs.State.{state_of, entries_of}
 
 -- a slice that has a state's entries gives the state
 reads : (s : State) (scan : List ℕ) → ((i : ℕ) → i < 13 → get_or scan i 0 ≡ get_or (entries_of s) i 0) → state_of scan ≡ s

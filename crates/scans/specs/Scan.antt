@@ -8,27 +8,15 @@ use Rattle.drawing.specs.Drawing.{pixels}
 use Rattle.memory.specs.Memory.{screen}
 use Rattle.registers.specs.Loading.{nine_words, word_entries, too_short, begun_with}
 use Rattle.signals.specs.declared.clock.Clock.{Clock}
-use Rattle.scanout.specs.Answers.{Shown, Taken}
+use Rattle.scanout.specs.State.{state_of, entries_of}
+use Rattle.scanout.specs.declared.run.Taken.{Taken}
+use Rattle.scanout.specs.declared.step.Shown.{Shown}
 use Rattle.scanout.specs.Calls.{start, one_clock, many_clocks, drawn, change}
 use Rattle.scanout.specs.Refusals.{judge_scan}
 use Rattle.scanout.specs.declared.state.State.{State}
 use Rattle.scanout.specs.declared.state.Viewport.{Viewport}
 
 -- ---- the state in its slice (§10.4)
-
--- as it is read: entries 0 to 8 the words in force, 9 the window start, 10 and 11 the pending LCDSADDR1 and LCDSADDR2, 12 the position
-abbrev pub state_of : List ℕ → State
-state_of scan =
-    record {
-      screen = screen (nine_words scan) (get_or scan 9 0);
-      pending = record { lcdsaddr1 = get_or scan 10 0; lcdsaddr2 = get_or scan 11 0 };
-      position = get_or scan 12 0;
-    }
-
--- its entries, in the same order
-abbrev pub entries_of : State → List ℕ
-entries_of s =
-    word_entries s.screen.words ++ (s.screen.window_start ∷ s.pending.lcdsaddr1 ∷ s.pending.lcdsaddr2 ∷ s.position ∷ [])
 
 -- the slice with the state stored in it; further entries stay
 unfoldable pub put_state : State → List ℕ → List ℕ
