@@ -11,3 +11,4 @@ pub mod Runs
 pub mod Pictures
 pub mod FrameByFrame
 pub mod Examples
+pub mod ReadBack

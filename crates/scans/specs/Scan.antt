@@ -1,12 +1,11 @@
 -- The scan in slices (§10.4): start, step, run and viewport change (§7.2 to §7.5) on a state that lies in 13 entries. In fewer entries
 -- step, run and viewport change have no state to judge, so for them 10 comes first (§9.3). Promises cite it, so a reader must believe it.
-use Rattle.std.specs.Prelude.{Bool, ◌||◌, List, [], ◌∷◌, ◌++◌, ℕ, length, get_or, set}
+use Rattle.std.specs.Prelude.{Bool, ◌||◌, List, [], ◌∷◌, ℕ, length, set}
 use Rattle.laws.specs.Answers.{Answer, accepted, refused, judged, and_then, Outcome, leaves, outcome, outcome_on}
 use Rattle.laws.specs.Cases.{◌when◌, lowest}
 use Rattle.drawing.specs.Colour.{Lent, lending}
 use Rattle.drawing.specs.Drawing.{pixels}
-use Rattle.memory.specs.Memory.{screen}
-use Rattle.registers.specs.Loading.{nine_words, word_entries, too_short, begun_with}
+use Rattle.registers.specs.Loading.{too_short, begun_with}
 use Rattle.signals.specs.declared.clock.Clock.{Clock}
 use Rattle.scanout.specs.State.{state_of, entries_of}
 use Rattle.scanout.specs.declared.run.Taken.{Taken}
