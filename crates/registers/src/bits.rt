@@ -1,4 +1,4 @@
-// The fields of the nine words by bit (§1.2, §1.7): `cut` shifts and masks.
+// The fields of the nine words by bit (§1.2, §1.7): where each stands in its word, and the field of nine words.
 ghost use Rattle.std.specs.Prelude.{◌≡◌, suc, ◌+◌, ◌-◌, ◌*◌, ◌/◌, ◌%◌, ◌^◌, ◌≤◌, ◌<◌, leb, ltb};
 ghost use Rattle.std.specs.List.{list_any};
 ghost use Rattle.laws.specs.Booleans.{any};
@@ -47,6 +47,8 @@ impl Bits {
     }
 }
 
+// ---- each field's bits (§1.2)
+
 // LCDCON1
 pub const LINECNT: Bits = Bits { high: 27, low: 18 };
 
@@ -76,8 +78,10 @@ pub const HOZVAL: Bits = Bits { high: 18, low: 8 };
 
 pub const HFPD: Bits = Bits { high: 7, low: 0 };
 
+// On STN.
 pub const WDLY: Bits = Bits { high: 20, low: 19 };
 
+// On STN.
 pub const LINEBLANK: Bits = Bits { high: 7, low: 0 };
 
 // LCDCON4
@@ -85,6 +89,7 @@ pub const MVAL: Bits = Bits { high: 15, low: 8 };
 
 pub const HSPW: Bits = Bits { high: 7, low: 0 };
 
+// On STN.
 pub const WLH: Bits = Bits { high: 1, low: 0 };
 
 // LCDCON5
@@ -448,6 +453,6 @@ impl Words {
     pub fn reserved_bit(self) -> bool
         ensures { result ≡ reserved_bit self }
     {
-        self.reserved_anywhere() | (self.stn() & self.reserved_on_stn())
+        self.reserved_anywhere() || self.stn() && self.reserved_on_stn()
     }
 }
