@@ -6,6 +6,8 @@ ghost use Rattle.laws.specs.Answers.{leaves};
 ghost use Rattle.stn.specs.Drawing.{frame_bytes, judge_stn_drawing, draw_stn};
 
 mod greys;
+mod patterns;
+mod phase;
 mod rows;
 mod words;
 

@@ -1,11 +1,11 @@
--- `stn::greys::pattern_at` meets its contract.
+-- `stn::patterns::pattern_at` meets its contract.
 use mathlib.Core.Path.{refl, ap, ◌∙◌}
 use Prim.Native.Nat.{◌-◌}
 use native.Mathlib.Omega.{arith}
 use Rattle.stn.specs.Core.{pattern}
 use Rattle.stn.specs.Greys.{duty, lit, bit, packed}
 use Rattle.stn.proofs.Packing.{bit-lt, bit-of-bool, packs-few, one-more-packed}
-use Rattle.stn.proofs.greys.pattern_at.Goals as goal
+use Rattle.stn.proofs.patterns.pattern_at.Goals as goal
 
 pub loop-i-init : goal.loop-i-init
 unfolding packed
