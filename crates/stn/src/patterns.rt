@@ -13,8 +13,8 @@ fn pattern_at(phase: u32) -> u32
     ensures { result ≡ pattern phase }
 {
     let mut pattern = 0;
-    for i in 0..16 {
-        pattern = pattern * 2 + lit(15 - i, phase) as u32;
+    for level in (0..16).rev() {
+        pattern = pattern * 2 + lit(level, phase) as u32;
     }
     pattern
 }

@@ -1,15 +1,14 @@
 -- `stn::rows::draw_rows` meets its contract: a row a turn.
 use mathlib.Core.Bool.{Bool}
 use mathlib.Core.Path.{◌≡◌, sym, ap, ap₂, ◌∙◌}
-use Prim.Native.Nat.{ℕ, ◌+◌, ◌-◌, ◌*◌, ◌/◌, ◌%◌, ◌<◌, ◌≤◌}
+use Prim.Native.Nat.{ℕ, ◌+◌, ◌-◌, ◌*◌, ◌/◌, ◌<◌, ◌≤◌}
 use native.Mathlib.Nat.{add-mul}
 use native.Mathlib.Omega.{arith}
 use lib.Dec.{eqb}
 use lib.ListN.{length}
 use Rattle.std.specs.List.{between}
 use Rattle.std.specs.Option.{is_none}
-use Rattle.laws.specs.ProductLaws.{product_le}
-use Rattle.laws.specs.StoringLaws.{none-stored, some_more, so-many-stored, all-stored, entry-stored}
+use Rattle.laws.specs.StoringLaws.{none-stored, some_more, so-many-stored}
 use Rattle.panel.specs.Geometry.{height}
 use Rattle.memory.specs.declared.Screen.{Screen}
 use Rattle.registers.specs.Fields.{pagewidth}
