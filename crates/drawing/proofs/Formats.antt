@@ -4,14 +4,12 @@ use mathlib.Core.List.{List, [], ◌∷◌}
 use mathlib.Core.Path.{◌≡◌, refl, sym, ap, ap₂, ◌∙◌}
 use Prim.Native.Nat.{ℕ, zero, suc, ◌+◌, ◌-◌, ◌*◌, ◌/◌, ◌%◌, ◌^◌, ◌<◌, ◌≤◌}
 use native.Mathlib.Decide.{ℕ_discrete, dec_lt}
-use native.Mathlib.Nat.{mod-lt, mul-div-mul_right, mul-div_cancel, mul_assoc, mul_comm, add-mul, div-add-mod', mul-zero, mul-lt-mul_of_pos_right, mul-mod_left, mul-sub, mul-le-mul_left, mul-one, le_of_mul-le-mul_right, add-mul-div_right, add-mul-mod_self_right}
+use native.Mathlib.Nat.{mod-lt, mul-div-mul_right, mul-div_cancel, mul_assoc, mul_comm, add-mul, div-add-mod', mul-zero, mul-lt-mul_of_pos_right, mul-mod_left, mul-sub, mul-le-mul_left, mul-one, add-mul-div_right, add-mul-mod_self_right}
 use native.Mathlib.Omega.{arith}
 use borrow.Author.Tests.{eqb-true, eq-eqb, ne_eqb, le-leb}
 use lib.Arith.{digits_mod}
 use lib.Dec.{T, eqb, leb, eqb→eq, leb→le}
 use lib.ListN.{length, get_or}
-use Rattle.laws.specs.Storing.{stores}
-use Rattle.laws.specs.StoringLaws.{stores_as}
 use Rattle.laws.specs.TableLaws.{every}
 use Rattle.panel.specs.Geometry.{stored_bits, outside_modes}
 use Rattle.panel.specs.Refusals.{judge}
@@ -136,7 +134,7 @@ module _ (f : Format) (colours : ℕ → ℕ) (v : ℕ) where
 -- no table is needed where nothing is looked up
 pub no_table : (f : Format) (palette table : List ℕ) → looked_up f ≡ false → Expanded f palette table
 no_table f palette table e =
-    record { room = λ off few. absurd (hides off few); entry = λ off v few h. absurd (hides off few) }
+    record { entry = λ off v few h. absurd (hides off few) }
   where
     hides : f.tpalen ≡ false → f.bits ≤ 8 → ⊥
     hides off few = true≢false (sym (rw (le-leb f.bits 8 few, off) refl) ∙ e)
@@ -303,85 +301,42 @@ from-word s pos bswp hwswp memory base a j e =
     past : (a + j) % (32 / s) ≡ j % (32 / s)
     past = ap (λ (n : ℕ). n % (32 / s)) whole_words ∙ add-mul-mod_self_right j (a / (32 / s)) (32 / s)
 
--- some of the words that n pixels fill, and the pixels past them
-module _ (s : ℕ) (pos : 0 < s) (fill : s * (32 / s) ≡ 32) (n words : ℕ) (some : words ≤ n * s / 32) where
-  pub word-bits-le : words * 32 ≤ n * s
-  word-bits-le = omega (arith, some)
-
-  word-bits : words * 32 ≡ words * (32 / s) * s
-  word-bits = ap (λ (k : ℕ). words * k) (sym (whole s pos fill)) ∙ sym (mul_assoc words (32 / s) s)
-
-  pub word-pixels-le : words * (32 / s) ≤ n
-  word-pixels-le = le_of_mul-le-mul_right {m = words * (32 / s)} {n = n} {k = s} (omega (arith, word-bits-le, word-bits)) pos
-
-  pub pixels-past : (n * s - words * 32) / s ≡ n - words * (32 / s)
-  pixels-past =
-      ap (λ (k : ℕ). k / s) (ap (λ (k : ℕ). n * s - k) word-bits ∙ sym difference)
-      ∙ mul-div_cancel (n - words * (32 / s)) pos
-    where
-      difference : (n - words * (32 / s)) * s ≡ n * s - words * (32 / s) * s
-      difference =
-          mul_comm (n - words * (32 / s)) s
-          ∙ mul-sub s n (words * (32 / s))
-          ∙ ap₂ (λ (i j : ℕ). i - j) (mul_comm s n) (mul_comm s (words * (32 / s)))
-
-  pub no-pixel-past : n * s - words * 32 ≡ 0 → n ≤ words * (32 / s)
-  no-pixel-past e = le_of_mul-le-mul_right {m = n} {n = words * (32 / s)} {k = s} (omega (arith, e, word-bits)) pos
-
 -- ---- the arms of a match on the size
 
-module _ (f : Format) (l : Legal f) (table memory : List ℕ) (from s : ℕ) (e : f.bits ≡ s) where
-  -- what whole words show by the table
-  words-shown : ℕ → ℕ
-  words-shown j = shown f (λ v. get_or table v 0) (stored_pixel f.bits f.bswp f.hwswp memory from j)
+module _ (f : Format) (l : Legal f) (table words : List ℕ) (s : ℕ) (e : f.bits ≡ s) (j : ℕ) where
+  -- pixel j, and what it shows by the table
+  stored : ℕ
+  stored = stored_pixel f.bits f.bswp f.hwswp words 0 j
 
-  same-pixel : (j : ℕ) (bswp hwswp : Bool) → f.bswp ≡ bswp → f.hwswp ≡ hwswp
-      → stored_pixel s bswp hwswp memory from j ≡ stored_pixel f.bits f.bswp f.hwswp memory from j
-  same-pixel j bswp hwswp b h = rw (← e, ← b, ← h)
+  same-pixel : (bswp hwswp : Bool) → f.bswp ≡ bswp → f.hwswp ≡ hwswp → stored_pixel s bswp hwswp words 0 j ≡ stored
+  unfolding stored
+  same-pixel bswp hwswp b h = rw (← e, ← b, ← h)
 
-  module _ (at n : ℕ) (out left : List ℕ) where
-    as-shown : (g : ℕ → ℕ) → left ≡ stores g at (n * (32 / s)) out → ((j : ℕ) → g j ≡ words-shown j)
-        → left ≡ stores (λ j. shown f (λ v. get_or table v 0) (stored_pixel f.bits f.bswp f.hwswp memory from j)) at (n * (32 / f.bits)) out
-    unfolding words-shown
-    as-shown g w same =
-        w ∙ stores_as g words-shown at (n * (32 / s)) (n * (32 / f.bits)) out (ap (λ (k : ℕ). n * (32 / k)) (sym e)) (λ j h. same j)
+  pub looked-up : s ≤ 8
+      → get_or table (stored_pixel s f.bswp false words 0 j) 0
+      ≡ shown f (λ v. get_or table v 0) (stored_pixel f.bits f.bswp f.hwswp words 0 j)
+  unfolding stored
+  looked-up h =
+      ap (λ (v : ℕ). get_or table v 0) (same-pixel f.bswp false refl (no-halves f l (λ z. omega arith)))
+      ∙ sym (shown-below f (λ v. get_or table v 0) stored (λ z. omega arith) (λ z. omega arith))
 
-    pub looked-up : s ≤ 8
-        → left ≡ stores (λ j. get_or table (stored_pixel s f.bswp false memory from j) 0) at (n * (32 / s)) out
-        → left ≡ stores (λ j. shown f (λ v. get_or table v 0) (stored_pixel f.bits f.bswp f.hwswp memory from j)) at (n * (32 / f.bits)) out
-    unfolding words-shown
-    looked-up h w =
-        as-shown (λ j. get_or table (stored_pixel s f.bswp false memory from j) 0) w
-        (λ j.
-        ap (λ (v : ℕ). get_or table v 0) (same-pixel j f.bswp false refl (no-halves f l (λ z. omega arith)))
-        ∙ sym (shown-below f (λ v. get_or table v 0) (stored_pixel f.bits f.bswp f.hwswp memory from j)
-        (λ z. omega arith) (λ z. omega arith)))
+  pub halves-expanded : s ≡ 16
+      → expanded f.expansion (stored_pixel s false f.hwswp words 0 j)
+      ≡ shown f (λ v. get_or table v 0) (stored_pixel f.bits f.bswp f.hwswp words 0 j)
+  unfolding stored
+  halves-expanded z =
+      ap (expanded f.expansion) (same-pixel false f.hwswp (no_bytes f l (omega arith)) refl)
+      ∙ sym (shown-at-16 f (λ v. get_or table v 0) stored (e ∙ z))
 
-    pub halves-expanded : s ≡ 16
-        → left ≡ stores (λ j. expanded f.expansion (stored_pixel s false f.hwswp memory from j)) at (n * (32 / s)) out
-        → left ≡ stores (λ j. shown f (λ v. get_or table v 0) (stored_pixel f.bits f.bswp f.hwswp memory from j)) at (n * (32 / f.bits)) out
-    unfolding words-shown
-    halves-expanded z w =
-        as-shown (λ j. expanded f.expansion (stored_pixel s false f.hwswp memory from j)) w
-        (λ j.
-        ap (expanded f.expansion) (same-pixel j false f.hwswp (no_bytes f l (omega arith)) refl)
-        ∙ sym (shown-at-16 f (λ v. get_or table v 0) (stored_pixel f.bits f.bswp f.hwswp memory from j) (e ∙ z)))
-
-    pub words-cut : s ≡ 32
-        → left ≡ stores (λ j. cut24 f.bpp24bl (stored_pixel s false false memory from j)) at (n * (32 / s)) out
-        → left ≡ stores (λ j. shown f (λ v. get_or table v 0) (stored_pixel f.bits f.bswp f.hwswp memory from j)) at (n * (32 / f.bits)) out
-    unfolding words-shown
-    words-cut z w =
-        as-shown (λ j. cut24 f.bpp24bl (stored_pixel s false false memory from j)) w
-        (λ j.
-        ap (cut24 f.bpp24bl) (same-pixel j false false (no_bytes f l (omega arith)) (no-halves f l (λ y. omega arith)))
-        ∙ sym (shown-at-32 f (λ v. get_or table v 0) (stored_pixel f.bits f.bswp f.hwswp memory from j) (e ∙ z)))
+  pub words-cut : s ≡ 32
+      → cut24 f.bpp24bl (stored_pixel s false false words 0 j)
+      ≡ shown f (λ v. get_or table v 0) (stored_pixel f.bits f.bswp f.hwswp words 0 j)
+  unfolding stored
+  words-cut z =
+      ap (cut24 f.bpp24bl) (same-pixel false false (no_bytes f l (omega arith)) (no-halves f l (λ y. omega arith)))
+      ∙ sym (shown-at-32 f (λ v. get_or table v 0) stored (e ∙ z))
 
 -- what an arm requires
-pub fits-size : (f : Format) (s n at : ℕ) (out : List ℕ) → f.bits ≡ s → 0 < s → s * (32 / s) ≡ 32
-    → at + n * (32 / f.bits) ≤ length out → Fits s n at out
-fits-size f s n at out e pos fill room = record { some = pos; whole = fill; room = rw e at room }
-
-pub table-room : (f : Format) (table : List ℕ) (s : ℕ) → f.bits ≡ s → s ≤ 8
-    → (f.bits ≤ 8 → 2 ^ f.bits ≤ length table) → 2 ^ s ≤ length table
-table-room f table s e h room = rw e at (room (rw e h))
+pub fits-size : (f : Format) (s n : ℕ) (out : List ℕ) → f.bits ≡ s → 0 < s → s * (32 / s) ≡ 32
+    → length out ≡ n * (32 / f.bits) → Fits s n out
+fits-size f s n out e pos fill room = record { some = pos; whole = fill; room = rw e at room }

@@ -4,4 +4,5 @@ pub mod Judged
 pub mod Numbers
 pub mod Parts
 pub mod Rows
+pub mod Shown
 pub mod Touched

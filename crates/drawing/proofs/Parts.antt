@@ -1,62 +1,55 @@
 -- Pixels that fill whole words of a row (§4.1), and a stretch of the picture in three parts (§5.7).
-use mathlib.Core.Bool.{false}
 use mathlib.Core.List.{List}
-use mathlib.Core.Path.{◌≡◌, sym, ap, ◌∙◌, subst}
-use Prim.Native.Nat.{ℕ, min, ◌+◌, ◌-◌, ◌*◌, ◌/◌, ◌%◌, ◌<◌, ◌≤◌, ◌∣◌}
+use mathlib.Core.Path.{◌≡◌, ap, ◌∙◌, subst}
+use Prim.Native.Nat.{ℕ, min, max, ◌+◌, ◌-◌, ◌*◌, ◌/◌, ◌%◌, ◌<◌, ◌≤◌, ◌∣◌}
 use native.Mathlib.Decide.{dec_lt}
-use native.Mathlib.Nat.{div-mul_cancel, mod-eq-zero_of_dvd, dvd_of_mod-eq-zero, dvd_refl, dvd-add, dvd-mul_left_of_dvd, div-add-mod', le_of_mul-le-mul_right, add-mul}
+use native.Mathlib.Nat.{div-mul_cancel, mod-eq-zero_of_dvd, dvd_of_mod-eq-zero, dvd_refl, dvd-add, dvd-mul_left_of_dvd, div-add-mod', le-div_iff_mul-le, div-mul-le_self, add-mul, div-lt_iff_lt-mul}
 use native.Mathlib.Omega.{arith}
-use lib.ListN.{length, get_or}
+use lib.ListN.{length, take, drop}
 use Rattle.laws.specs.ProductLaws.{product_le}
 use Rattle.laws.specs.Storing.{stores}
-use Rattle.laws.specs.StoringLaws.{Stored, none-stored, some_more, all-stored, stores_as}
+use Rattle.laws.specs.StoringLaws.{Stored, none-stored, some_more, all-stored}
 use Rattle.panel.specs.Geometry.{width, height}
 use Rattle.pixels.specs.Format.{format}
-use Rattle.pixels.specs.Pixel.{shown}
 use Rattle.pixels.specs.declared.format.Format.{Format}
 use Rattle.pixels.specs.Order.{stored_pixel}
+use Rattle.pixels.proofs.StoredPixels.{pixel-of-part}
 use Rattle.memory.specs.Memory.{first_word}
 use Rattle.memory.specs.declared.Screen.{Screen}
-use Rattle.drawing.specs.Colour.{row_colour}
-use Rattle.drawing.specs.Core.{per_word, Columns, ByRows, columns_stored}
-use Rattle.drawing.proofs.Formats.{bits-le, bits-fill, per-word-pos, word-of-bit, from-word, shown-colour}
+use Rattle.drawing.specs.Core.{per_word, Columns, ByRows}
+use Rattle.drawing.proofs.Formats.{bits-le, bits-fill, per-word-pos, word-of-bit, from-word}
 
 -- ---- columns
 
--- what whole words from `from` on show
-abbrev pub words_shown : Format → List ℕ → List ℕ → ℕ → ℕ → ℕ
-words_shown f table memory from j = shown f (λ v. get_or table v 0) (stored_pixel f.bits f.bswp f.hwswp memory from j)
-
-module _ (f : Format) (memory table : List ℕ) (base column n : ℕ) (c : Columns f memory table base column n) where
+module _ (f : Format) (memory : List ℕ) (base column n : ℕ) (c : Columns f memory base column n) where
   q-pos : 0 < per_word f
   q-pos = per-word-pos f.bits c.legal.stores.some (bits-fill f c.legal.stores)
 
+  -- the words before a pixel, and those that the pixels fill
   pub word : (k : ℕ) → k * f.bits / 32 ≡ k / per_word f
   word = word-of-bit f.bits c.legal.stores.some (bits-fill f c.legal.stores)
+
+  pub pixels-of-words : n * f.bits / 32 * per_word f ≡ n
+  pixels-of-words = ap (λ (k : ℕ). k * per_word f) (word n) ∙ div-mul_cancel (per_word f) c.lent.whole
+
+  pub words-lent : base + column * f.bits / 32 + n * f.bits / 32 ≤ length memory
+  words-lent = omega (arith, word n, word column, c.lent.inside)
 
   -- their bits are few
   pub bits-few : (k : ℕ) → k ≤ column + n → k * f.bits ≤ 2048 * 32
   bits-few k h = product_le k 2048 f.bits 32 (omega (arith, c.short)) (bits-le f c.legal.stores.sized)
 
-  pub pixels-of-words : n * f.bits / 32 * per_word f ≡ n
-  pixels-of-words = ap (λ (k : ℕ). k * per_word f) (word n) ∙ div-mul_cancel (per_word f) c.lent.whole
-
-  pub words-lent : n * f.bits / 32 ≤ length memory - (base + column * f.bits / 32)
-  words-lent = omega (arith, word n, word column, c.lent.inside)
-
-  pub columns-drawn : f.tpalen ≡ false → (at : ℕ) (out left : List ℕ)
-      → left ≡ stores (words_shown f table memory (base + column * f.bits / 32)) at (n * f.bits / 32 * per_word f) out
-      → left ≡ columns_stored f table memory base column n at out
-  columns-drawn off at out left e =
-      e ∙ stores_as _ (λ i. row_colour f (λ v. get_or table v 0) memory base (column + i)) at _ n out pixels-of-words (λ j h. its-colour j)
+  -- a pixel of these words by themselves is a pixel of the row
+  pub pixel-of-words : (i m : ℕ) → i < n → m ≡ n * f.bits / 32
+      → stored_pixel f.bits f.bswp f.hwswp (take m (drop (base + column * f.bits / 32) memory)) 0 i
+      ≡ stored_pixel f.bits f.bswp f.hwswp memory base (column + i)
+  pixel-of-words i m h e =
+      pixel-of-part f.bits f.bswp f.hwswp memory (base + column * f.bits / 32) m i inside
+      ∙ ap (λ (k : ℕ). stored_pixel f.bits f.bswp f.hwswp memory (base + k) i) (word column)
+      ∙ from-word f.bits q-pos f.bswp f.hwswp memory base column i (mod-eq-zero_of_dvd (per_word f) (c.begins (omega (arith, h))))
     where
-      its-colour : (j : ℕ)
-          → words_shown f table memory (base + column * f.bits / 32) j ≡ row_colour f (λ v. get_or table v 0) memory base (column + j)
-      its-colour j =
-          ap (shown f (λ v. get_or table v 0))
-          (ap (λ (k : ℕ). stored_pixel f.bits f.bswp f.hwswp memory (base + k) j) (word column)
-          ∙ from-word f.bits q-pos f.bswp f.hwswp memory base column j (mod-eq-zero_of_dvd (per_word f) c.begins))
-          ∙ sym (shown-colour f (λ v. get_or table v 0) memory base (column + j) off)
+      inside : i / per_word f < m
+      inside = (div-lt_iff_lt-mul {k = per_word f} {x = i} {y = m} q-pos).1 (rw (e, pixels-of-words) h)
 
 -- ---- a turn of rows
 
@@ -67,31 +60,26 @@ dvd-min q a b d e = go (dec_lt a b)
     go (yes h) = subst (λ (k : ℕ). q ∣ k) (omega arith) d
     go (no h) = subst (λ (k : ℕ). q ∣ k) (omega arith) e
 
+pub dvd-max : (q a b : ℕ) → q ∣ a → q ∣ b → q ∣ max a b
+dvd-max q a b d e = go (dec_lt a b)
+  where
+    go : Dec (a < b) → q ∣ max a b
+    go (yes h) = subst (λ (k : ℕ). q ∣ k) (omega arith) e
+    go (no h) = subst (λ (k : ℕ). q ∣ k) (omega arith) d
+
 -- two parts of a row have no more words than the row
-words-add : (q a b wide : ℕ) → 0 < q → q ∣ a → q ∣ b → q ∣ wide → a + b ≤ wide → a / q + b / q ≤ wide / q
-words-add q a b wide pos d e w h =
-    le_of_mul-le-mul_right {m = a / q + b / q} {n = wide / q} {k = q}
-    (omega (arith, add-mul (a / q) (b / q) q, div-mul_cancel q d, div-mul_cancel q e, div-mul_cancel q w)) pos
+words-add : (q a b wide : ℕ) → 0 < q → a + b ≤ wide → a / q + b / q ≤ wide / q
+words-add q a b wide pos h =
+    (le-div_iff_mul-le {k = q} {x = a / q + b / q} {y = wide} pos).1
+    (omega (arith, add-mul (a / q) (b / q) q, div-mul-le_self a q, div-mul-le_self b q))
 
-module _ (s : Screen) (lent : ℕ) (rows : ByRows s lent) where
-  q : ℕ
-  q = per_word (format s.words)
-
-  some-per-word : 0 < q
-  unfolding q
-  some-per-word =
-      per-word-pos (format s.words).bits rows.legal.stores.some (bits-fill (format s.words) rows.legal.stores)
-
-  pub part-lent : (r column n : ℕ) → r < height s.words → per_word (format s.words) ∣ column → per_word (format s.words) ∣ n
-      → column + n ≤ width s.words
-      → first_word s r + column / per_word (format s.words) + n / per_word (format s.words) ≤ lent
-  unfolding q
-  part-lent r column n h d e fits =
-      omega (
-        arith,
-        rows.inside r h,
-        words-add (per_word (format s.words)) column n (width s.words) some-per-word d e rows.whole fits,
-      )
+-- what a turn draws lies in the memory
+pub part-lent : (s : Screen) (lent : ℕ) → ByRows s lent → (r column n : ℕ) → r < height s.words → column + n ≤ width s.words
+    → first_word s r + column / per_word (format s.words) + n / per_word (format s.words) ≤ lent
+part-lent s lent rows r column n h fits =
+    let q = per_word (format s.words) in
+    let pos = per-word-pos (format s.words).bits rows.legal.stores.some (bits-fill (format s.words) rows.legal.stores) in
+    omega (arith, rows.inside r h, words-add q column n (width s.words) pos fits)
 
 -- ---- a stretch
 

@@ -1,67 +1,75 @@
--- Reading order (§5.6): where a drawing that goes row by row stands, over plain numbers.
+-- Reading order (§5.6): the part of a row that a stretch of the picture takes, over plain numbers.
 use mathlib.Core.Path.{◌≡◌, ap, ◌∙◌}
-use Prim.Native.Nat.{ℕ, min, ◌+◌, ◌-◌, ◌*◌, ◌/◌, ◌%◌, ◌<◌, ◌≤◌}
-use native.Mathlib.Nat.{add-mul, div-add-mod', mod-lt, mul_comm, div-lt_iff_lt-mul, lt_of_mul-lt-mul_right, div-le_of_le-mul}
+use Prim.Native.Nat.{ℕ, min, max, ◌+◌, ◌-◌, ◌*◌, ◌/◌, ◌%◌, ◌<◌, ◌≤◌}
+use native.Mathlib.Nat.{add-mul, div-add-mod', mod-lt, mul_comm, mul-le-mul_right, lt_of_mul-lt-mul_right}
 use native.Mathlib.Omega.{arith}
 use lib.Arith.{digits_div, digits_mod}
+use Rattle.std.specs.Int.{div_ceil}
+use Rattle.std.proofs.lemmas.Grind.{div_ceil_times}
 
--- of `count` pixels from number `first` on, on a panel of `wide` by `high`, `done` are drawn; the next is in this row and column
-pub record Standing (wide high first count done row column : ℕ) : Type 0 where
-  pub upto : done ≤ count
-  pub column-lt : column < wide
-  pub row-le : row ≤ high
-  pub here : done < count → first + done ≡ row * wide + column
-  pub inside : done < count → row < high
+-- pixels `first` to `end` of a panel of `wide` by `high`; the row is one that holds some of them, from number a up to number b
+pub record Turn (wide high first end row a b : ℕ) : Type 0 where
+  pub some : 0 < wide
+  pub ordered : first ≤ end
+  pub fits : end ≤ wide * high
+  pub reached : first / wide ≤ row
+  pub left : row < div_ceil end wide
+  pub begins : a ≡ max (row * wide) first
+  pub ends : b ≡ min (row * wide + wide) end
 
-pub begin : (wide high first count : ℕ) → 0 < wide → first + count ≤ wide * high
-    → Standing wide high first count 0 (first / wide) (first % wide)
-begin wide high first count pos fits =
-    record {
-      upto = omega arith;
-      column-lt = mod-lt first pos;
-      row-le = div-le_of_le-mul wide (omega arith);
-      here = λ h. omega (arith, div-add-mod' first wide);
-      inside = λ h. (div-lt_iff_lt-mul {k = wide} {x = first} {y = high} pos).1 (omega (arith, mul_comm wide high));
-    }
+module _ (wide high first end row a b : ℕ) (t : Turn wide high first end row a b) where
+  not-past : first < row * wide + wide
+  not-past =
+      omega (
+        arith,
+        t.reached,
+        div-add-mod' first wide,
+        mod-lt first t.some,
+        mul-le-mul_right {m = first / wide} {n = row} wide t.reached,
+      )
 
--- a turn from there takes n pixels: to the row's end, or all that are left
-pub record Turn (wide high first count done row column n : ℕ) : Type 0 where
-  pub fits : first + count ≤ wide * high
-  pub standing : Standing wide high first count done row column
-  pub more : done < count
-  pub takes : n ≡ min (wide - column) (count - done)
+  pub begun : row * wide < end
+  begun =
+      omega (
+        arith,
+        (div_ceil_times end wide t.some).1,
+        add-mul row 1 wide,
+        mul-le-mul_right {m = row + 1} {n = div_ceil end wide} wide (omega (arith, t.left)),
+      )
 
-module _ (wide high first count done row column n : ℕ) (t : Turn wide high first count done row column n) where
-  pub some : 0 < n
-  some = omega (arith, t.takes, t.more, t.standing.column-lt)
+  pub on-panel : row < high
+  on-panel = lt_of_mul-lt-mul_right wide {m = row} {n = high} (omega (arith, begun, t.fits, mul_comm wide high))
 
-  pub one-row : column + n ≤ wide
-  one-row = omega (arith, t.takes, t.standing.column-lt)
+  -- its columns
+  pub in-order : a ≤ b
+  in-order = omega (arith, t.begins, t.ends, t.ordered, not-past, begun)
 
-  pub few : done + n ≤ count
-  few = omega (arith, t.takes, t.more)
+  pub one-row : a - row * wide + (b - a) ≤ wide
+  one-row = omega (arith, t.begins, t.ends, in-order)
 
-  onward : done + n < count → first + (done + n) ≡ (row + 1) * wide + 0
-  onward h = omega (arith, t.takes, t.standing.here t.more, t.standing.column-lt, add-mul row 1 wide)
+  -- how far the stretch was drawn before, and is then
+  pub drawn-before : a - first ≡ min (row * wide) end - first
+  drawn-before = omega (arith, t.begins, begun)
 
-  pub next : Standing wide high first count (done + n) (row + 1) 0
-  next =
-      record {
-        upto = few;
-        column-lt = omega (arith, t.standing.column-lt);
-        row-le = omega (arith, t.standing.inside t.more);
-        here = onward;
-        inside = λ h.
-            lt_of_mul-lt-mul_right wide {m = row + 1} {n = high} (omega (arith, onward h, t.fits, mul_comm wide high));
-      }
+  pub drawn-then : b - first ≡ min ((row + 1) * wide) end - first
+  drawn-then = omega (arith, t.ends, add-mul row 1 wide)
 
-  -- pixel i of the turn
-  module _ (i : ℕ) (l : i < n) where
-    number : first + (done + i) ≡ row * wide + (column + i)
-    number = omega (arith, t.standing.here t.more)
+  -- pixel i of the part
+  module _ (i : ℕ) (l : i < b - a) where
+    number : first + (a - first + i) ≡ row * wide + (a - row * wide + i)
+    number = omega (arith, t.begins)
 
-    pub its-row : (first + (done + i)) / wide ≡ row
-    its-row = ap (λ (k : ℕ). k / wide) number ∙ digits_div row (omega (arith, one-row))
+    pub its-row : (first + (a - first + i)) / wide ≡ row
+    its-row = ap (λ (k : ℕ). k / wide) number ∙ digits_div row (omega (arith, one-row, l))
 
-    pub its-column : (first + (done + i)) % wide ≡ column + i
-    its-column = ap (λ (k : ℕ). k % wide) number ∙ digits_mod row (omega (arith, one-row))
+    pub its-column : (first + (a - first + i)) % wide ≡ a - row * wide + i
+    its-column = ap (λ (k : ℕ). k % wide) number ∙ digits_mod row (omega (arith, one-row, l))
+
+-- where no row is left, all are drawn
+pub all-drawn : (wide first end row : ℕ) → 0 < wide → div_ceil end wide ≤ row → min (row * wide) end - first ≡ end - first
+all-drawn wide first end row some past =
+    omega (arith, (div_ceil_times end wide some).0, mul-le-mul_right {m = div_ceil end wide} {n = row} wide past)
+
+-- before the first, none are
+pub none-drawn : (wide first end : ℕ) → min (first / wide * wide) end - first ≡ 0
+none-drawn wide first end = omega (arith, div-add-mod' first wide)

@@ -7,6 +7,7 @@ use Rattle.pixels.specs.Pixel.{indexed, shown}
 use Rattle.pixels.specs.declared.format.Format.{Format}
 use Rattle.memory.specs.Memory.{first_word}
 use Rattle.memory.specs.declared.Screen.{Screen}
+use Rattle.drawing.specs.declared.Lent.{Lent as Slices}
 
 -- the memory (§3.1) and the palette (§5.1) lent to a call
 pub record Lent : Type 0 where
@@ -15,6 +16,10 @@ pub record Lent : Type 0 where
 
 abbrev pub lending : List ℕ → List ℕ → Lent
 lending memory palette = record { memory = memory; palette = palette }
+
+-- what the lent slices hold
+abbrev pub contents : Slices → Lent
+contents l = lending l.video.now l.palette.now
 
 -- its colour, given the colour of each index (§5.5): TPALVAL where TPALEN is set (§5.4), else what the stored bits show
 unfoldable pub row_colour : Format → (ℕ → ℕ) → List ℕ → ℕ → ℕ → ℕ

@@ -1,14 +1,12 @@
 -- What the private functions of drawing require and leave. A reader of the promises need not believe any of it.
 use Rattle.std.specs.Prelude.{Bool, true, false, not, ◌&&◌, List, ◌≡◌, ℕ, ◌+◌, ◌*◌, ◌/◌, ◌^◌, ◌<◌, ◌≤◌, leb, length, get_or}
 use Rattle.std.specs.Int.{◌∣◌}
-use Rattle.laws.specs.Storing.{stores}
 use Rattle.panel.specs.Geometry.{width, height, stored_bits}
 use Rattle.pixels.specs.Format.{format}
 use Rattle.pixels.specs.Pixel.{indexed}
 use Rattle.pixels.specs.declared.format.Format.{Format}
 use Rattle.memory.specs.Memory.{first_word}
 use Rattle.memory.specs.declared.Screen.{Screen}
-use Rattle.drawing.specs.Colour.{row_colour}
 
 -- a format whose stored bits are those of a mode number (§2.2): 0 where there is no such mode
 pub record Sized (f : Format) : Type 0 where
@@ -32,14 +30,17 @@ looked_up f = leb f.bits 8 && not f.tpalen
 
 -- the table holds the expanded colour of each index, where pixels are looked up
 pub record Expanded (f : Format) (palette table : List ℕ) : Type 0 where
-  pub room : f.tpalen ≡ false → f.bits ≤ 8 → 2 ^ f.bits ≤ length table
   pub entry : f.tpalen ≡ false → (v : ℕ) → f.bits ≤ 8 → v < 2 ^ f.bits → get_or table v 0 ≡ indexed f palette v
 
--- the entries from `at` on have room for n words of pixels, s bits each
-pub record Fits (s n at : ℕ) (out : List ℕ) : Type 0 where
+-- every entry of a slice is what g gives its index
+abbrev pub Shows : (ℕ → ℕ) → List ℕ → Type 0
+Shows g out = (i : ℕ) → i < length out → get_or out i 0 ≡ g i
+
+-- the entries are those of n words of pixels, s bits each
+pub record Fits (s n : ℕ) (out : List ℕ) : Type 0 where
   pub some : 0 < s
   pub whole : s * (32 / s) ≡ 32
-  pub room : at + n * (32 / s) ≤ length out
+  pub room : length out ≡ n * (32 / s)
 
 -- pixels in a word
 abbrev pub per_word : Format → ℕ
@@ -51,10 +52,9 @@ pub record InMemory (f : Format) (memory : List ℕ) (base n : ℕ) : Type 0 whe
   pub inside : base + n / per_word f ≤ length memory
 
 -- what drawing n columns of a row from `column` on requires: they begin and end with a word
-pub record Columns (f : Format) (memory table : List ℕ) (base column n : ℕ) : Type 0 where
+pub record Columns (f : Format) (memory : List ℕ) (base column n : ℕ) : Type 0 where
   pub legal : Legal f
-  pub room : f.tpalen ≡ false → f.bits ≤ 8 → 2 ^ f.bits ≤ length table
-  pub begins : per_word f ∣ column
+  pub begins : 0 < n → per_word f ∣ column
   pub lent : InMemory f memory (base + column / per_word f) n
   pub short : column + n ≤ 2048
 
@@ -68,7 +68,3 @@ pub record ByRows (s : Screen) (lent : ℕ) : Type 0 where
 pub record InWords (s : Screen) (first count : ℕ) : Type 0 where
   pub begins : 0 < count → per_word (format s.words) ∣ first
   pub whole : per_word (format s.words) ∣ count
-
--- what drawing columns leaves: the n pixels from `column` on, by the table, in the entries from `at` on
-abbrev pub columns_stored : Format → List ℕ → List ℕ → ℕ → ℕ → ℕ → ℕ → List ℕ → List ℕ
-columns_stored f table memory base column n at out = stores (λ i. row_colour f (λ v. get_or table v 0) memory base (column + i)) at n out

@@ -1,7 +1,7 @@
 -- The calls that draw (§5.6, §5.7): what each is judged by (§9.3), and what it gives. The words are handed in by value: a slice with
 -- fewer than nine has been refused before. Promises cite it, so a reader must believe it.
 use Rattle.std.specs.Prelude.{Bool, false, not, ◌||◌, List, [], ◌∷◌, ◌++◌, ℕ, ◌+◌, ◌-◌, ◌*◌, ◌/◌, ◌%◌, min, eqb, leb, length}
-use Rattle.laws.specs.Answers.{Answer, accepted, refused, judged, Outcome, outcome}
+use Rattle.laws.specs.Answers.{Answer, judged, Outcome, outcome}
 use Rattle.laws.specs.Cases.{Case, ◌when◌, lowest}
 use Rattle.laws.specs.Storing.{stores}
 use Rattle.panel.specs.Geometry.{width, height}
@@ -11,8 +11,6 @@ use Rattle.registers.specs.declared.Words.{Words}
 use Rattle.memory.specs.Memory.{memory_cases}
 use Rattle.memory.specs.declared.Screen.{Screen}
 use Rattle.drawing.specs.Colour.{Lent, colour}
-use Rattle.drawing.specs.declared.pixel.Drawn.{Drawn}
-use Rattle.drawing.specs.declared.pixel.Drawn.TheVariants.{Colour, Refused}
 
 -- ---- the conditions
 
@@ -46,11 +44,6 @@ unfoldable pub judge_drawing : Screen → ℕ → ℕ → Bool → ℕ
 judge_drawing s lent entries short = lowest (drawing_cases s lent entries short)
 
 -- ---- one pixel
-
--- the answer as a number of refusal or a colour
-abbrev pub drawn_pixel : Drawn → Answer ℕ
-drawn_pixel (Colour v) = accepted v
-drawn_pixel (Refused n) = refused n
 
 -- one pixel is judged by 1 to 8, 9, 10, 11 (§9.3)
 unfoldable pub judge_pixel : Screen → ℕ → ℕ → Bool → ℕ → ℕ → ℕ

@@ -9,3 +9,10 @@ pub mod refusals;
 pub mod row;
 mod table;
 mod words;
+
+// What is lent to a call beside the slice that it draws to: the video memory (§3.1) and the palette (§5.1).
+#[derive(Clone, Copy)]
+pub struct Lent<'a> {
+    pub video: &'a [u32],
+    pub palette: &'a [u16],
+}

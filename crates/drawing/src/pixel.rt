@@ -1,35 +1,28 @@
 // One pixel (§5.5, §5.6).
-ghost use Rattle.std.specs.Prelude.{◌≡◌, ◌^◌, ◌<◌, get_or};
+ghost use Rattle.std.specs.Prelude.{◌≡◌, ◌^◌, ◌<◌, length, get_or};
+ghost use Rattle.registers.specs.Refusals.{answer, code};
 ghost use Rattle.pixels.specs.Pixel.{indexed, shown};
 ghost use Rattle.pixels.specs.Order.{stored_pixel};
-ghost use Rattle.drawing.specs.Colour.{lending, colour};
+ghost use Rattle.drawing.specs.Colour.{contents, colour};
 ghost use Rattle.drawing.specs.Core.{Sized};
-ghost use Rattle.drawing.specs.Drawing.{drawn_pixel, judge_pixel, draw_pixel};
+ghost use Rattle.drawing.specs.Drawing.{judge_pixel, draw_pixel};
 
+use super::Lent;
 use super::refusals::judge_drawing;
 use super::table::entry_at;
 use super::words::bits_past;
 use memory::{Screen, first_word};
-use panel::geometry::{height, width};
-use panel::refusals::and_where;
+use panel::geometry::{Place, height, width};
 use pixels::colours::{cut_24, expand};
 use pixels::format::{Format, format_of};
 use pixels::order::in_order;
+use registers::refusal::{Refusal, refuse_if};
 
-// A pixel's colour, or a refusal's number.
-#[derive(Clone, Copy)]
-pub enum Drawn {
-    Colour(u32),
-    Refused(u32),
-}
-
+// A word of the memory, 0 where there is none.
 fn word_at(video: &[u32], place: usize) -> u32
     ensures { result ≡ get_or video.now place 0 }
 {
-    if place < video.len() {
-        return video[place];
-    }
-    0
+    video.get(place).copied().unwrap_or(0)
 }
 
 // The stored bits of a pixel in the row that begins with the memory's word `base` (§4.1); 0 where the mode stores none.
@@ -50,54 +43,44 @@ fn stored_at(f: Format, video: &[u32], base: usize, column: usize) -> u32
 fn show_indexed(f: Format, palette: &[u16], v: u32) -> u32
     ensures { result ≡ shown f (indexed f palette.now) v }
 {
-    let bits = f.bits;
-    let expansion = f.expansion;
-    if bits == 32 {
-        return cut_24(v, f.bpp24bl);
+    match f.bits {
+        32 => cut_24(v, f.bpp24bl),
+        16 => expand(v, f.expansion),
+        _ => expand(entry_at(palette, v as usize), f.expansion),
     }
-    if bits == 16 {
-        return expand(v, expansion);
-    }
-    expand(entry_at(palette, v as usize), expansion)
 }
 
-// The colour of the pixel in a row and column (§5.5). Nothing is judged, and a word or an entry that is not lent counts as 0.
-pub fn pixel_colour(s: Screen, video: &[u32], palette: &[u16], row: u32, column: u32) -> u32
-    ensures { result ≡ colour s (lending video.now palette.now) row column }
+// The colour of the pixel at a place (§5.5). Nothing is judged, and a word or an entry that is not lent counts as 0.
+pub fn pixel_colour(s: Screen, lent: Lent, place: Place) -> u32
+    ensures { result ≡ colour s (contents lent.entry) place.row place.column }
 {
     let f = format_of(s.words);
     if f.tpalen {
         return f.tpalval;
     }
-    let v = stored_at(f, video, first_word(s, row), column as usize);
-    show_indexed(f, palette, v)
+    let v = stored_at(
+        f,
+        lent.video,
+        first_word(s, place.row),
+        place.column as usize,
+    );
+    show_indexed(f, lent.palette, v)
 }
 
-// Judges one pixel: 1 to 8, 9, 10, 11, or 0 (§9.3). `lent` words of memory and `entries` of the palette are lent; `short` where a slice
-// for the colour is too short.
-pub fn judge_pixel(
-    s: Screen,
-    lent: usize,
-    entries: usize,
-    short: bool,
-    row: u32,
-    column: u32,
-) -> u32
-    ensures { result ≡ judge_pixel s lent entries short row column }
+// Judges one pixel: 1 to 8, 9, 10, 11 (§9.3). `short` where a slice for the colour is too short.
+pub fn judge_pixel(s: Screen, lent: Lent, short: bool, place: Place) -> Result<(), Refusal>
+    ensures { code result ≡ judge_pixel s (length lent.entry.video.now) (length lent.entry.palette.now) short place.row place.column }
 {
-    let to_10 = judge_drawing(s, lent, entries, short);
-    let outside = (height(s.words) <= row) | (width(s.words) <= column);
-    and_where(to_10, outside, 11)
+    judge_drawing(s, lent, short)?;
+    let outside = (height(s.words) <= place.row) | (width(s.words) <= place.column);
+    refuse_if(outside, Refusal::OutsidePanel)
 }
 
-// Draws one pixel (§5.6): its colour, or the number of the refusal: 1 to 8, 9, 10 for a palette not of 256 entries, 11 for a row or
-// column outside the panel.
-pub fn draw_pixel(s: Screen, video: &[u32], palette: &[u16], row: u32, column: u32) -> Drawn
-    ensures { drawn_pixel result ≡ draw_pixel s (lending video.now palette.now) row column }
+// Draws one pixel (§5.6): its colour. It is refused by 1 to 8, 9, 10 for a palette not of 256 entries, 11 for a row or column outside
+// the panel.
+pub fn draw_pixel(s: Screen, lent: Lent, place: Place) -> Result<u32, Refusal>
+    ensures { answer result ≡ draw_pixel s (contents lent.entry) place.row place.column }
 {
-    let refusal = judge_pixel(s, video.len(), palette.len(), false, row, column);
-    if refusal != 0 {
-        return Drawn::Refused(refusal);
-    }
-    Drawn::Colour(pixel_colour(s, video, palette, row, column))
+    judge_pixel(s, lent, false, place)?;
+    Ok(pixel_colour(s, lent, place))
 }

@@ -1,9 +1,12 @@
 // What every drawing is judged by (§9.3).
-ghost use Rattle.std.specs.Prelude.{◌≡◌};
+ghost use Rattle.std.specs.Prelude.{◌≡◌, length};
+ghost use Rattle.registers.specs.Refusals.{code};
 ghost use Rattle.drawing.specs.Drawing.{palette_wrong, judge_drawing};
 
+use super::Lent;
 use memory::{Screen, judge_memory};
-use panel::refusals::{and_where, video_off};
+use panel::refusals::video_off;
+use registers::refusal::{Refusal, refuse_if};
 
 // 10 (§5.1): the palette does not have 256 entries.
 pub fn palette_wrong(entries: usize) -> bool
@@ -12,12 +15,14 @@ pub fn palette_wrong(entries: usize) -> bool
     entries != 256
 }
 
-// Judges a drawing: 1 to 8, 9, 10, or 0. `lent` words of memory and `entries` of the palette are lent; `short` where another slice is
-// too short.
-pub fn judge_drawing(s: Screen, lent: usize, entries: usize, short: bool) -> u32
-    ensures { result ≡ judge_drawing s lent entries short }
+// Judges a drawing: 1 to 8, 9, 10 (§9.3). `short` where another slice is too short.
+pub fn judge_drawing(s: Screen, lent: Lent, short: bool) -> Result<(), Refusal>
+    ensures { code result ≡ judge_drawing s (length lent.entry.video.now) (length lent.entry.palette.now) short }
 {
-    let to_8 = judge_memory(s, lent);
-    let to_9 = and_where(to_8, video_off(s.words), 9);
-    and_where(to_9, palette_wrong(entries) | short, 10)
+    judge_memory(s, lent.video.len())?;
+    refuse_if(video_off(s.words), Refusal::VideoOff)?;
+    refuse_if(
+        palette_wrong(lent.palette.len()) | short,
+        Refusal::WrongLength,
+    )
 }

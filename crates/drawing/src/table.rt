@@ -1,33 +1,15 @@
 // The colours of all indices (§5.1), expanded once.
 ghost use Rattle.std.specs.Prelude.{true, false, ◌≡◌, ◌^◌, ◌<◌, ◌≤◌, length, get_or, replicate};
-ghost use Rattle.laws.specs.Storing.{stores};
-ghost use Rattle.pixels.specs.Colours.{expanded};
 ghost use Rattle.drawing.specs.Core.{looked_up, Expanded};
 
-use super::columns::least;
-use pixels::colours::{Expansion, expand};
+use pixels::colours::expand;
 use pixels::format::Format;
 
 // An entry of the palette, 0 where there is none.
 pub(crate) fn entry_at(palette: &[u16], place: usize) -> u32
     ensures { result ≡ get_or palette.now place 0 }
 {
-    if place < palette.len() {
-        return palette[place] as u32;
-    }
-    0
-}
-
-// The colours of the first n palette entries.
-fn expand_palette(palette: &[u16], n: usize, expansion: Expansion, table: &mut [u32])
-    requires { (n ≤ length palette.now) × (n ≤ length table.old) }
-    ensures { table.new ≡ stores (λ i. expanded expansion (get_or palette.now i 0)) 0 n table.old }
-{
-    let mut i = 0;
-    while i < n {
-        table[i] = expand(palette[i] as u32, expansion);
-        i += 1;
-    }
+    u32::from(palette.get(place).copied().unwrap_or(0))
 }
 
 // Pixels are looked up: they are indices, and no temporary palette hides them.
@@ -48,11 +30,12 @@ fn indices(f: Format) -> usize
 }
 
 // The colour of each index to a table of zeros; none where nothing is looked up. An index that has no palette entry stays 0.
-pub(crate) fn fill_table(f: Format, palette: &[u16], table: &mut [u32])
+pub(crate) fn fill_table(f: Format, palette: &[u16], table: &mut [u32; 256])
     requires { table.old ≡ replicate 256 0 }
     ensures { Expanded f palette.now table.new }
 {
-    let n = least(indices(f), palette.len());
-    let expansion = f.expansion;
-    expand_palette(palette, n, expansion, table);
+    let n = indices(f).min(palette.len());
+    for (v, entry) in palette[..n].iter().enumerate() {
+        table[v] = expand(u32::from(*entry), f.expansion);
+    }
 }

@@ -1,42 +1,34 @@
 -- `drawing::columns::draw_columns` meets its contract.
-use mathlib.Core.Path.{sym, ◌∙◌}
-use Prim.Native.Nat.{◌+◌}
+use mathlib.Core.Path.{◌≡◌, sym, ap, ◌∙◌}
+use mathlib.Core.List.{List}
+use Prim.Native.Nat.{ℕ, ◌+◌, ◌-◌, ◌*◌, ◌/◌}
 use native.Mathlib.Omega.{arith}
-use lib.ListN.{get_or}
-use Rattle.laws.specs.StoringLaws.{stores_same}
-use Rattle.drawing.specs.Colour.{row_colour}
-use Rattle.drawing.proofs.Formats.{temporary-colour}
-use Rattle.drawing.proofs.Parts.{word, bits-few, pixels-of-words, words-lent, columns-drawn}
+use lib.ListN.{length, get_or, take, drop, length-take, length-drop, get_or-replicate}
+use Rattle.pixels.specs.Pixel.{shown}
+use Rattle.drawing.proofs.Formats.{temporary-colour, shown-colour}
+use Rattle.drawing.proofs.Parts.{pixels-of-words, words-lent, pixel-of-words}
 use Rattle.drawing.proofs.columns.draw_columns.Goals as goal
 
-pub overflow_mul-from : goal.overflow_mul-from
-overflow_mul-from c =
-    omega (arith, bits-few _ _ _ _ _ _ c.requires.0 c.args.column (omega arith))
-
-pub overflow_add-from : goal.overflow_add-from
-overflow_add-from c =
-    omega (arith, word _ _ _ _ _ _ c.requires.0 c.args.column, c.requires.0.lent.inside)
-
-pub overflow_mul-n : goal.overflow_mul-n
-overflow_mul-n c =
-    omega (arith, bits-few _ _ _ _ _ _ c.requires.0 c.args.n (omega arith))
+pub slice_bounds-draw_words-end : goal.slice_bounds-draw_words-end
+slice_bounds-draw_words-end c = words-lent _ _ _ _ _ c.requires
 
 pub draw_words-requires : goal.draw_words-requires
-draw_words-requires c = (
-  c.requires.0.legal,
-  c.requires.0.room c.if-f.false,
-  words-lent _ _ _ _ _ _ c.requires.0,
-  omega (arith, c.requires.1, pixels-of-words _ _ _ _ _ _ c.requires.0),
-)
+draw_words-requires c =
+    let a = c.args in
+    let from = a.base + a.column * a.f.bits / 32 in
+    let n = length a.out.now * a.f.bits / 32 in
+    let many : length (take (from + n - from) (drop from a.video.now)) ≡ n =
+    omega (arith, words-lent _ _ _ _ _ c.requires, length-take (from + n - from) (drop from a.video.now), length-drop from a.video.now) in
+    (c.requires.legal, sym (ap (λ (k : ℕ). k * (32 / a.f.bits)) many ∙ pixels-of-words _ _ _ _ _ c.requires))
 
 pub returns-then-f : goal.returns-then-f
-returns-then-f c =
-    let a = c.args in
-    c.fill.ensures
-    ∙ stores_same (λ i. a.f.tpalval) (λ i. row_colour a.f (λ v. get_or a.table.now v 0) a.video.now a.base (a.column + i))
-    a.at a.n a.out.now
-    (λ i h. sym (temporary-colour a.f _ a.video.now a.base (a.column + i) c.if-f.true))
+returns-then-f c i h =
+    ap (λ (s : List ℕ). get_or s i 0) (c.fill.ensures.after (λ y e. e))
+    ∙ get_or-replicate (length c.args.out.now) i c.args.f.tpalval 0 (omega (arith, c.fill.ensures.len))
+    ∙ sym (temporary-colour c.args.f _ _ _ _ c.if-f.true)
 
 pub returns-else-f : goal.returns-else-f
-returns-else-f c =
-    columns-drawn _ _ _ _ _ _ c.requires.0 c.if-f.false c.args.at c.args.out.now _ c.draw_words.ensures
+returns-else-f c i h =
+    c.draw_words.ensures i h
+    ∙ ap (shown c.args.f _) (pixel-of-words _ _ _ _ _ c.requires i _ (omega arith) (omega arith))
+    ∙ sym (shown-colour c.args.f _ _ _ _ c.if-f.false)

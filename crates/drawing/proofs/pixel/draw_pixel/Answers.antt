@@ -1,12 +1,15 @@
 -- `drawing::pixel::draw_pixel` meets its contract.
-use Rattle.laws.proofs.AnswerLaws.{gives-refusal, gives-answer}
+use mathlib.Core.Path.{refl}
+use Rattle.laws.proofs.AnswerLaws.{gives-answer}
+use Rattle.registers.proofs.Refusals.{refused-as}
 use Rattle.drawing.specs.Drawing.{draw_pixel}
 use Rattle.drawing.proofs.pixel.draw_pixel.Goals as goal
 
-pub returns-then-refusal-ne0 : goal.returns-then-refusal-ne0
+pub returns-in_err-judge_pixel : goal.returns-in_err-judge_pixel
 unfolding draw_pixel
-returns-then-refusal-ne0 c = gives-refusal _ _ _ c.judge_pixel-refusal.ensures c.if-refusal-ne0.true
+returns-in_err-judge_pixel c =
+    refused-as c.from_residual.result c.in_err-judge_pixel.field-0.0 _ _ c.from_residual.ensures.1 c.in_err-judge_pixel.ensures
 
 pub returns : goal.returns
 unfolding draw_pixel
-returns c = gives-answer _ _ _ _ c.judge_pixel-refusal.ensures c.if-refusal-ne0.false c.pixel_colour.ensures
+returns c = gives-answer _ _ _ _ c.in_ok-judge_pixel.ensures refl c.pixel_colour.ensures

@@ -1,62 +1,48 @@
 -- `drawing::table::fill_table` meets its contract.
--- an entry that is not lent counts as 0, and its colour is black
-use mathlib.Core.Bool.{false}
 use mathlib.Core.List.{List}
-use mathlib.Core.Path.{◌≡◌, refl, sym, ap, ◌∙◌}
-use Prim.Native.Nat.{ℕ, min, ◌^◌, ◌<◌, ◌≤◌}
-use native.Mathlib.Decide.{dec_lt}
+use mathlib.Core.Path.{◌≡◌, ap, ◌∙◌}
+use Prim.Native.Nat.{ℕ, ◌≤◌, ◌<◌}
 use native.Mathlib.Omega.{arith}
-use lib.ListN.{length, get_or, replicate, length-replicate, get_or-replicate, get_or-eq_default}
-use Rattle.laws.specs.Storing.{stores}
-use Rattle.laws.specs.StoringLaws.{left-length, entry-stored, entry-outside}
+use lib.ListN.{length, get_or, replicate, length-replicate, length-take, get_or-replicate, get_or-eq_default}
+use Rattle.std.proofs.Common.{◌⊎◌, inl, inr}
+use Rattle.std.proofs.lemmas.Bool.{cases_lt}
 use Rattle.pixels.specs.Colours.{expanded, expanded565, expanded5551}
 use Rattle.pixels.specs.Pixel.{indexed}
 use Rattle.pixels.specs.declared.colours.Expansion.{Expansion}
 use Rattle.pixels.specs.declared.colours.Expansion.TheVariants.{Rgb565, Rgb5551}
 use Rattle.pixels.specs.declared.format.Format.{Format}
-use Rattle.drawing.specs.Core.{Expanded}
 use Rattle.drawing.proofs.table.fill_table.Goals as goal
 
-black : (e : Expansion) → expanded e 0 ≡ 0
+-- an entry that is not lent counts as 0, and its colour is black
+black : (e : Expansion) (palette : List ℕ) (v : ℕ) → length palette ≤ v → 0 ≡ expanded e (get_or palette v 0)
 unfolding expanded expanded565 expanded5551
-black Rgb565 = refl
-black Rgb5551 = refl
+black Rgb565 palette v h = rw (get_or-eq_default palette 0 {n = v} h)
+black Rgb5551 palette v h = rw (get_or-eq_default palette 0 {n = v} h)
 
--- the table at first
-abbrev was : List ℕ
-was = replicate 256 0
+-- a table of zeros
+zeros : (n k : ℕ) → get_or {A = ℕ} (replicate n 0) k 0 ≡ 0
+zeros n k = go (cases_lt k n)
+  where
+    go : (k < n) ⊎ (n ≤ k) → get_or {A = ℕ} (replicate n 0) k 0 ≡ 0
+    go (inl l) = get_or-replicate n k 0 0 l
+    go (inr l) = get_or-eq_default (replicate n 0) 0 {n = k} (omega (arith, length-replicate {A = ℕ} n 0))
 
--- a table with the colours of as many indices as the palette has entries for
-module _ (f : Format) (palette table : List ℕ) (n m : ℕ) (many : f.tpalen ≡ false → f.bits ≤ 8 → n ≡ 2 ^ f.bits) (few : n ≤ 256)
-    (is : m ≡ min n (length palette)) (e : table ≡ stores (indexed f palette) 0 m was) where
-  entry : (v : ℕ) → v < n → get_or table v 0 ≡ indexed f palette v
-  entry v l = ap (λ (t : List ℕ). get_or t v 0) e ∙ go (dec_lt v (length palette))
-    where
-      go : Dec (v < length palette) → get_or (stores (indexed f palette) 0 m was) v 0 ≡ indexed f palette v
-      go (yes h) =
-          ap (λ (j : ℕ). get_or (stores (indexed f palette) 0 m was) j 0) (omega arith)
-          ∙ entry-stored (indexed f palette) 0 m was v (omega (arith, length-replicate {A = ℕ} 256 0, is)) (omega (arith, is))
-      go (no h) =
-          entry-outside (indexed f palette) 0 m was v (λ i k z. h (omega (arith, is)))
-          ∙ get_or-replicate 256 v 0 0 (omega arith)
-          ∙ sym (ap (expanded f.expansion) (get_or-eq_default palette 0 {n = v} (omega arith)) ∙ black f.expansion)
+-- the first m entries have their colours, and the others are 0
+filled : (f : Format) (palette table : List ℕ) (m v : ℕ) → ((k : ℕ) → k < m → get_or table k 0 ≡ indexed f palette k)
+    → ((k : ℕ) → m ≤ k → get_or table k 0 ≡ 0) → (m ≤ v → length palette ≤ v) → get_or table v 0 ≡ indexed f palette v
+filled f palette table m v expands rest far = go (cases_lt v m)
+  where
+    go : (v < m) ⊎ (m ≤ v) → get_or table v 0 ≡ indexed f palette v
+    go (inl l) = expands v l
+    go (inr l) = rest v l ∙ black f.expansion palette v (far l)
 
-  expands : Expanded f palette table
-  expands =
-      record {
-        room = λ off h. omega (arith, many off h, left-length (indexed f palette) 0 m was table e, length-replicate {A = ℕ} 256 0);
-        entry = λ off v h l. entry v (omega (arith, many off h));
-      }
-
-pub expand_palette-requires : goal.expand_palette-requires
-expand_palette-requires c = (
-  omega (arith, c.least-n.ensures),
-  omega (arith, c.least-n.ensures, c.indices.ensures.1, ap length c.requires, length-replicate {A = ℕ} 256 0),
-)
+pub loop-v-init : goal.loop-v-init
+loop-v-init c = (λ k h. absurd (omega arith), λ k h. ap (λ (t : List ℕ). get_or t k 0) c.requires ∙ zeros 256 k)
 
 pub returns : goal.returns
 returns c =
-    let a = c.args in
-    let many = c.indices in
-    expands a.f a.palette.now _ many.result c.least-n.result many.ensures.0 many.ensures.1 c.least-n.ensures
-    (c.expand_palette.ensures ∙ ap (stores (indexed a.f a.palette.now) 0 c.least-n.result) c.requires)
+    record {
+      entry = λ off v few h.
+          filled c.args.f _ _ _ v c.loop-v.invariant.0 c.loop-v.invariant.1
+          (λ l. omega (arith, c.indices.ensures.0 off few, length-take c.min-n.result c.args.palette.now));
+    }
