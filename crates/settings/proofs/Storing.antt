@@ -79,10 +79,6 @@ unfolding load short_of_nine too_short
 has-nine slice f e =
     ltb-false (length slice) 9 (lowest-zero-none-holds 0 (10 when short_of_nine slice ∷ []) tt (number-went-on _ _ f e).0).0
 
-pub checked-has-nine : (words : List ℕ) (window-start : ℕ) (memory : List ℕ) → check words window-start memory ≡ 0 → 9 ≤ length words
-unfolding check
-checked-has-nine words window-start memory e = has-nine words _ e
-
 -- a block of nine entries leaves the judgement to the check
 pub as-checked : (block words : List ℕ) (window-start : ℕ) (memory : List ℕ) → 9 ≤ length block
     → check words window-start memory ≡ judge_load block words window-start memory

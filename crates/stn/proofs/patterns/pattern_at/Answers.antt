@@ -1,5 +1,5 @@
 -- `stn::patterns::pattern_at` meets its contract: one more level a turn.
-use mathlib.Core.Path.{refl, ap, ◌∙◌}
+use mathlib.Core.Path.{◌≡◌, refl, ap, ◌∙◌}
 use Prim.Native.Nat.{ℕ, ◌-◌}
 use native.Mathlib.Omega.{arith}
 use Rattle.stn.specs.Core.{pattern}
@@ -20,7 +20,8 @@ overflow_add-pattern c =
 
 pub loop-level-preserved : goal.loop-level-preserved
 loop-level-preserved c =
-    let lit-next = c.lit.ensures ∙ ap (λ (k : ℕ). lit (duty k) c.args.phase) (omega arith) in
+    let lit-next : c.lit.result ≡ lit (duty (15 - (16 - c.loop-level.level))) c.args.phase =
+    c.lit.ensures ∙ ap (λ (k : ℕ). lit (duty k) c.args.phase) (omega arith) in
     one-more-packed (λ j. lit (duty (15 - j)) c.args.phase) (16 - c.loop-level.level) _ _ c.loop-level.invariant
     (bit-of-bool c.lit.result ∙ ap bit lit-next)
     ∙ ap (packed _) (omega arith)
