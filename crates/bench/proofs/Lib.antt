@@ -1,4 +1,3 @@
-pub mod Bytes
 pub mod Examples
 pub mod Lengths
 pub mod Lines

@@ -1,25 +1,9 @@
 // The bench's input (§11.1): its length, and its numbers, stored low byte first.
-ghost use Rattle.std.specs.Prelude.{◌+◌, ◌*◌, ◌<◌, ◌≤◌, ◌≡◌, length, IfOk};
-ghost use Rattle.laws.specs.Storing.{stores};
+ghost use Rattle.std.specs.Prelude.{◌≡◌, ◌/◌, length, map, vec_len, IfOk};
+ghost use Rattle.std.specs.Simd.{first_chunks};
 ghost use Rattle.bench.specs.Input.{length_refused, low_first};
 
-use std::io;
-use std::io::Read;
-
-// Reads until the buffer is full or the input ends, and answers how many bytes were read.
-pub(crate) fn read_full(input: &mut impl Read, buffer: &mut [u8]) -> io::Result<usize>
-    ensures { IfOk result (λ n. n ≤ length buffer.new) }
-{
-    let mut n = 0;
-    while n < buffer.len() {
-        let got = input.read(&mut buffer[n..])?;
-        if got == 0 {
-            break;
-        }
-        n += got;
-    }
-    Ok(n)
-}
+use std::alloc::{AllocError, Global};
 
 // Whether an input of n bytes is refused with 14 (§11.3). The video words begin at byte 556.
 pub(crate) fn length_refused(n: usize) -> bool
@@ -32,57 +16,39 @@ pub(crate) fn length_refused(n: usize) -> bool
     (tail % 4 != 0) | (32768 < tail)
 }
 
-fn wide(byte: u8) -> u32
-    ensures { (result ≡ byte) × (result < 256) }
+fn word(bytes: [u8; 4]) -> u32
+    ensures { result ≡ low_first bytes 0 4 }
 {
-    byte as u32
+    u32::from_le_bytes(bytes)
 }
 
-fn wide_half(byte: u8) -> u16
-    ensures { (result ≡ byte) × (result < 256) }
+fn half(bytes: [u8; 2]) -> u16
+    ensures { result ≡ low_first bytes 0 2 }
 {
-    byte as u16
+    u16::from_le_bytes(bytes)
 }
 
-// The word in the four bytes from `at` on.
-fn word(bytes: &[u8], at: usize) -> u32
-    requires { at + 4 ≤ length bytes.now }
-    ensures { result ≡ low_first bytes.now at 4 }
+// The words of some bytes.
+pub(crate) fn words(alloc: Global, bytes: &[u8]) -> Result<Vec<u32>, AllocError>
+    ensures value { IfOk result (λ v. v.items ≡ map (λ four. low_first four 0 4) (first_chunks 4 (length bytes.now / 4) bytes.now)) }
+    ensures len { IfOk result (λ v. vec_len v ≡ length bytes.now / 4) }
 {
-    wide(bytes[at])
-        | (wide(bytes[at + 1]) << 8)
-        | (wide(bytes[at + 2]) << 16)
-        | (wide(bytes[at + 3]) << 24)
+    bytes
+        .as_chunks()
+        .0
+        .iter()
+        .map(|four| word(*four))
+        .collect(alloc)
 }
 
-// The half-word in the two bytes from `at` on.
-fn half(bytes: &[u8], at: usize) -> u16
-    requires { at + 2 ≤ length bytes.now }
-    ensures { result ≡ low_first bytes.now at 2 }
+// The half-words of some bytes.
+pub(crate) fn halves(alloc: Global, bytes: &[u8]) -> Result<Vec<u16>, AllocError>
+    ensures { IfOk result (λ v. v.items ≡ map (λ two. low_first two 0 2) (first_chunks 2 (length bytes.now / 2) bytes.now)) }
 {
-    wide_half(bytes[at]) | (wide_half(bytes[at + 1]) << 8)
-}
-
-// The first n entries of `out` become the words from byte `from` on; the others stay.
-pub(crate) fn words(bytes: &[u8], from: usize, n: usize, out: &mut [u32])
-    requires { (from + 4 * n ≤ length bytes.now) × (n ≤ length out.old) }
-    ensures { out.new ≡ stores (λ i. low_first bytes.now (from + 4 * i) 4) 0 n out.old }
-{
-    let mut i = 0;
-    while i < n {
-        out[i] = word(bytes, from + 4 * i);
-        i += 1;
-    }
-}
-
-// The first n entries of `out` become the half-words from byte `from` on; the others stay.
-pub(crate) fn halves(bytes: &[u8], from: usize, n: usize, out: &mut [u16])
-    requires { (from + 2 * n ≤ length bytes.now) × (n ≤ length out.old) }
-    ensures { out.new ≡ stores (λ i. low_first bytes.now (from + 2 * i) 2) 0 n out.old }
-{
-    let mut i = 0;
-    while i < n {
-        out[i] = half(bytes, from + 2 * i);
-        i += 1;
-    }
+    bytes
+        .as_chunks()
+        .0
+        .iter()
+        .map(|two| half(*two))
+        .collect(alloc)
 }

@@ -5,10 +5,12 @@ ghost use Rattle.bench.specs.Output.{digit_char, colour_text, parting, row_text}
 
 use panel::timing::{frame_clocks, frame_millihertz, frame_ticks};
 use registers::Words;
+use registers::refusal::Refusal;
 use std::io;
 
-pub(crate) fn print_refused(rt: &impl Print, refusal: u32) -> io::Result<()> {
-    println!(rt; "refused {refusal}")
+pub(crate) fn print_refused(rt: &impl Print, refusal: Refusal) -> io::Result<()> {
+    let number = u32::from(refusal);
+    println!(rt; "refused {number}")
 }
 
 // A frame's clocks, its HCLK ticks and its rate in millihertz.
@@ -31,15 +33,13 @@ fn digit(d: u32) -> u8
     }
 }
 
-// A colour's six hexadecimal digits go to the text from `at` on.
-fn spell_colour(colour: u32, at: usize, text: &mut [u8])
-    requires { at + 6 ≤ length text.old }
-    ensures { text.new ≡ stores (colour_text colour) at 6 text.old }
+// A colour's six hexadecimal digits.
+fn spell_colour(colour: u32, text: &mut [u8])
+    requires { length text.old ≡ 6 }
+    ensures { text.new ≡ stores (colour_text colour) 0 6 text.old }
 {
-    let mut k = 0;
-    while k < 6 {
-        text[at + k] = digit((colour >> (20 - 4 * k)) % 16);
-        k += 1;
+    for (k, character) in text.iter_mut().enumerate() {
+        *character = digit((colour >> (20 - 4 * k)) % 16);
     }
 }
 
@@ -55,19 +55,18 @@ fn spell_row(row: &[u32], text: &mut [u8])
     requires { 7 * length row.now ≤ length text.old }
     ensures { text.new ≡ stores (row_text row.now) 0 (7 * length row.now) text.old }
 {
-    let mut c = 0;
-    while c < row.len() {
-        spell_colour(row[c], 7 * c, text);
-        text[7 * c + 6] = parting(c + 1 == row.len());
-        c += 1;
+    for (c, colour) in row.iter().enumerate() {
+        let at = 7 * c;
+        spell_colour(*colour, &mut text[at..at + 6]);
+        text[at + 6] = parting(c + 1 == row.len());
     }
 }
 
-// The text has room for 2,048 colours of seven bytes each.
-pub(crate) fn print_row(rt: &impl Print, row: &[u32]) -> io::Result<()>
+// A colour takes seven bytes.
+pub(crate) fn print_row(rt: &(impl Print + AllocGlobal), row: &[u32]) -> io::Result<()>
     requires { length row.now ≤ 2048 }
 {
-    let mut text = [0u8; 14336];
+    let mut text = vec![in rt.alloc(); 0u8; 7 * row.len()]?;
     spell_row(row, &mut text);
-    rt.write_all(&text[..7 * row.len()])
+    rt.write_all(&text)
 }

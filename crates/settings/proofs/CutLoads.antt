@@ -8,6 +8,7 @@ use native.Mathlib.Omega.{arith}
 use borrow.Author.Tests.{lt-ltb, le-ltb, ltb-true, ltb-false, eq-eqb, ne_eqb}
 use lib.Dec.{eqb, ltb, lit≤}
 use lib.ListN.{length, drop}
+use Rattle.std.proofs.lemmas.List.{take_all}
 use Rattle.laws.specs.Answers.{Answer, accepted, Outcome}
 use Rattle.laws.proofs.AnswerLaws.{leaves-written, leaves-as-it-was}
 use Rattle.laws.specs.Storing.{stores}
@@ -18,8 +19,9 @@ use Rattle.registers.specs.declared.Words.{Words}
 use Rattle.registers.proofs.Lending.{nine-loaded}
 use Rattle.settings.specs.CutLoads.{Load, block_after, refusal, Accepted, words_after, EveryEntry, OldOffOrNew}
 use Rattle.settings.specs.CutLoads.{block_after_all, LoadedAgain, checked, stores_whole, last_whole, OnIsWhole}
-use Rattle.settings.specs.Stores.{Store, with_video_off, ten_stores, after_stores, after_cut, judge_load, load_settings}
-use Rattle.settings.proofs.Storing.{all-taken, has-nine, as-checked}
+use Rattle.settings.specs.declared.Store.{Store}
+use Rattle.settings.specs.Stores.{with_video_off, ten_stores, after_stores, after_cut, judge_load, load_settings}
+use Rattle.settings.proofs.Storing.{has-nine, as-checked}
 
 -- ---- a block as nine words and the rest
 
@@ -69,7 +71,7 @@ module _ (old new : Words) (rest : List ℕ) where
   cut-words (suc (suc (suc (suc (suc (suc (suc (suc zero)))))))) = refl
   cut-words (suc (suc (suc (suc (suc (suc (suc (suc (suc zero))))))))) = refl
   cut-words (suc (suc (suc (suc (suc (suc (suc (suc (suc (suc n)))))))))) =
-      ap (λ (ss : List Store). after_stores ss (word_entries new ++ rest)) (all-taken [] n (omega arith))
+      ap (λ (ss : List Store). after_stores ss (word_entries new ++ rest)) (take_all n [] (omega arith))
       ∙ ap (λ (w : Words). word_entries w ++ rest)
       (sym (all-stored (suc (suc (suc (suc (suc (suc (suc (suc (suc (suc n)))))))))) (omega arith)))
 

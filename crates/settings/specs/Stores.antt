@@ -7,12 +7,9 @@ use Rattle.memory.specs.Memory.{check}
 use Rattle.registers.specs.Layouts.{ENVID}
 use Rattle.registers.specs.Loading.{nine_words, load}
 use Rattle.registers.specs.declared.Words.{Words}
+use Rattle.settings.specs.declared.Store.{Store}
 
 -- one store: an entry of the block gets a word
-pub record Store : Type 0 where
-  pub entry : ℕ
-  pub word : ℕ
-
 infix 70 ◌gets◌
 abbrev pub ◌gets◌ : ℕ → ℕ → Store
 e gets n = record { entry = e; word = n }

@@ -3,14 +3,25 @@
 
 ghost use Rattle.std.specs.Prelude.{◌≡◌, ◌≤◌, length};
 ghost use Rattle.laws.specs.Answers.{leaves};
-ghost use Rattle.registers.specs.Loading.{nine_words};
-ghost use Rattle.settings.specs.Core.{ten_words};
-ghost use Rattle.settings.specs.Stores.{with_video_off, after_cut, load_settings};
+ghost use Rattle.registers.specs.Refusals.{code};
+ghost use Rattle.settings.specs.Stores.{◌gets◌, with_video_off, ten_stores, after_cut, load_settings};
 
 use memory::check;
+use registers::refusal::{Refusal, refuse_if};
+use registers::{Words, load};
 
-// The ten stores in their order: the entry of the block that each sets ..
-const ENTRIES: [usize; 10] = [0, 1, 2, 3, 4, 5, 6, 7, 8, 0];
+// One store: an entry of the block gets a word.
+#[derive(Clone, Copy)]
+struct Store {
+    entry: usize,
+    word: u32,
+}
+
+fn gets(entry: usize, word: u32) -> Store
+    ensures { result ≡ entry gets word }
+{
+    Store { entry, word }
+}
 
 // LCDCON1 with ENVID 0.
 fn with_video_off(lcdcon1: u32) -> u32
@@ -19,35 +30,32 @@ fn with_video_off(lcdcon1: u32) -> u32
     lcdcon1 >> 1 << 1
 }
 
-// .. and the word that it stores there: the first is LCDCON1 with ENVID 0, the last LCDCON1 as wanted.
-fn ten_words(words: &[u32]) -> [u32; 10]
-    requires { 9 ≤ length words.now }
-    ensures { result ≡ ten_words (nine_words words.now) }
+// The ten stores in their order: LCDCON1 with ENVID 0 comes first, LCDCON1 as wanted last.
+fn ten_stores(w: Words) -> [Store; 10]
+    ensures { result ≡ ten_stores w }
 {
     [
-        with_video_off(words[0]),
-        words[1],
-        words[2],
-        words[3],
-        words[4],
-        words[5],
-        words[6],
-        words[7],
-        words[8],
-        words[0],
+        gets(0, with_video_off(w.lcdcon1)),
+        gets(1, w.lcdcon2),
+        gets(2, w.lcdcon3),
+        gets(3, w.lcdcon4),
+        gets(4, w.lcdcon5),
+        gets(5, w.lcdsaddr1),
+        gets(6, w.lcdsaddr2),
+        gets(7, w.lcdsaddr3),
+        gets(8, w.tpal),
+        gets(0, w.lcdcon1),
     ]
 }
 
 // Makes the first `cut` of them, all ten where it is above 10.
-fn make_stores(words: &[u32], cut: u32, stored: &mut [u32])
-    requires { (9 ≤ length words.now) × (9 ≤ length stored.old) }
-    ensures { stored.new ≡ after_cut (nine_words words.now) cut stored.old }
+fn make_stores(w: Words, cut: u32, stored: &mut [u32])
+    requires { 9 ≤ length stored.old }
+    ensures { stored.new ≡ after_cut w cut stored.old }
 {
-    let wanted = ten_words(words);
-    let mut i = 0;
-    while i < 10 && i < cut as usize {
-        stored[ENTRIES[i]] = wanted[i];
-        i += 1;
+    let made = (cut as usize).min(10);
+    for store in &ten_stores(w)[..made] {
+        stored[store.entry] = store.word;
     }
 }
 
@@ -59,16 +67,12 @@ pub fn load_settings(
     window_start: u32,
     video: &[u32],
     cut: u32,
-) -> u32
-    ensures { leaves result stored.new ≡ load_settings stored.old words.now window_start video.now cut }
+) -> Result<(), Refusal>
+    ensures { leaves (code result) stored.new ≡ load_settings stored.old words.now window_start video.now cut }
 {
-    if stored.len() < 9 {
-        return 10;
-    }
-    let refusal = check(words, window_start, video);
-    if refusal != 0 {
-        return refusal;
-    }
-    make_stores(words, cut, stored);
-    0
+    refuse_if(stored.len() < 9, Refusal::WrongLength)?;
+    let wanted = load(words)?;
+    check(words, window_start, video)?;
+    make_stores(wanted, cut, stored);
+    Ok(())
 }

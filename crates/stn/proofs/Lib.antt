@@ -1,6 +1,7 @@
 pub mod Packing
 pub mod Duties
 pub mod Counting
+pub mod Parts
 pub mod RowBytes
 pub mod FrameBytes
 pub mod Judged

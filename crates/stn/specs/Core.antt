@@ -1,5 +1,5 @@
 -- What the private functions of the STN drawing require and leave. A reader of the promises need not believe any of it.
-use Rattle.std.specs.Prelude.{Bool, cond, List, ◌≡◌, ℕ, ◌+◌, ◌-◌, ◌*◌, ◌<◌, ◌≤◌, eqb, length, get_or}
+use Rattle.std.specs.Prelude.{Bool, cond, List, ◌≡◌, ℕ, ◌+◌, ◌-◌, ◌*◌, ◌<◌, ◌≤◌, eqb, get_or}
 use Rattle.memory.specs.Memory.{row_words, first_word}
 use Rattle.memory.specs.declared.Screen.{Screen}
 use Rattle.panel.specs.Geometry.{height, stn_bits}
@@ -14,9 +14,8 @@ unfoldable pub pattern : ℕ → ℕ
 pattern phase = packed (λ i. lit (duty (15 - i)) phase) 16
 
 -- the table holds the pattern of each phase below 420, and of the seven columns after
-pub record Patterns (table : List ℕ) : Type 0 where
-  pub size : length table ≡ 427
-  pub entry : (phase : ℕ) → phase < 427 → get_or table phase 0 ≡ pattern phase
+abbrev pub IsPatterns : List ℕ → Type 0
+IsPatterns table = (phase : ℕ) → phase < 427 → get_or table phase 0 ≡ pattern phase
 
 -- pixel k of a word at 4 bits is lit, where the word begins at a phase
 abbrev pub lit_in : ℕ → ℕ → ℕ → Bool

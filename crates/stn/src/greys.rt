@@ -1,6 +1,5 @@
 // Grey levels: their duties (§5.8), and which of them are lit at each phase (§5.9).
-ghost use Rattle.std.specs.Prelude.{◌≡◌, ◌<◌, length};
-ghost use Rattle.stn.specs.Core.{pattern, Patterns};
+ghost use Rattle.std.specs.Prelude.{◌≡◌, ◌<◌};
 ghost use Rattle.stn.specs.Greys.{duty, lit};
 
 // A fraction n / d: a level is lit in n of each d frames.
@@ -38,36 +37,10 @@ fn duty_of(level: usize) -> Duty
 }
 
 // Whether a level is lit at a phase (§5.9).
-fn lit(level: usize, phase: u32) -> bool
+pub(crate) fn lit(level: usize, phase: u32) -> bool
     requires { (level < 16) × (phase < 427) }
     ensures { result ≡ lit (duty level) phase }
 {
     let q = duty_of(level);
     phase * q.n % q.d < q.n
-}
-
-// The levels that are lit at a phase: level v is bit v.
-fn pattern_at(phase: u32) -> u32
-    requires { phase < 427 }
-    ensures { result ≡ pattern phase }
-{
-    let mut pattern = 0;
-    let mut i = 0;
-    while i < 16 {
-        pattern = pattern * 2 + lit(15 - i, phase) as u32;
-        i += 1;
-    }
-    pattern
-}
-
-// The patterns of the phases below 420, and of the seven columns after.
-pub(crate) fn fill_patterns(table: &mut [u32])
-    requires { length table.old ≡ 427 }
-    ensures { Patterns table.new }
-{
-    let mut phase = 0;
-    while phase < 427 {
-        table[phase as usize] = pattern_at(phase);
-        phase += 1;
-    }
 }

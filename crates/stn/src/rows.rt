@@ -1,11 +1,12 @@
 // The rows of an STN panel, one after the other (§5.10).
-ghost use Rattle.std.specs.Prelude.{false, ◌≡◌, ◌+◌, ◌-◌, ◌*◌, ◌<◌, ◌≤◌, length};
+ghost use Rattle.std.specs.Prelude.{◌≡◌, ◌*◌, ◌≤◌, length, is_none};
 ghost use Rattle.laws.specs.Storing.{stores};
-ghost use Rattle.stn.specs.Core.{Patterns, mono, bits_in, bytes_of, ByRows};
+ghost use Rattle.stn.specs.Core.{mono, bits_in, bytes_of, ByRows};
 ghost use Rattle.stn.specs.Drawing.{row_bytes, frame_bytes, stn_byte};
 ghost use Rattle.stn.specs.Greys.{row_byte};
 
-use super::greys::fill_patterns;
+use super::patterns::Patterns;
+use super::phase::Phase;
 use super::words::{draw_greys, draw_mono};
 use memory::{Screen, first_word};
 use panel::geometry::{height, stn_width};
@@ -25,61 +26,35 @@ fn mono(w: Words) -> bool
     w.bppmode() == 0
 }
 
-// The phase of a row's first column (§5.9). It may pass 32 bits.
-fn row_phase(frame: u32, row: u32) -> u64
-    ensures { result ≡ frame + row }
+// The words of a row. A mono row has no patterns.
+fn draw_row(words: &[u32], bswp: bool, patterns: Option<&Patterns>, phase: Phase, out: &mut [u8])
+    requires { length out.old ≡ bytes_of (is_none patterns) (length words.now) }
+    ensures { out.new ≡ stores (row_byte (bits_in (is_none patterns.entry)) bswp words.now 0 phase.number) 0 (length out.old) out.old }
 {
-    frame as u64 + row as u64
-}
-
-// The n words of a row from `from` on.
-fn draw_row(
-    mono: bool,
-    bswp: bool,
-    video: &[u32],
-    from: usize,
-    n: usize,
-    phase: usize,
-    patterns: &[u32],
-    at: usize,
-    out: &mut [u8],
-)
-    requires { (phase < 420) × (mono ≡ false → Patterns patterns.now) × (n ≤ length video.now - from) × (at + bytes_of mono n ≤ length out.old) }
-    ensures { out.new ≡ stores (row_byte (bits_in mono) bswp video.now from phase) at (bytes_of mono n) out.old }
-{
-    if mono {
-        draw_mono(video, from, n, bswp, at, out);
-    } else {
-        draw_greys(video, from, n, bswp, phase, patterns, at, out);
+    match patterns {
+        None => draw_mono(words, bswp, out),
+        Some(patterns) => draw_greys(words, bswp, patterns, phase, out),
     }
 }
 
 // All rows of a frame.
-fn draw_rows(s: Screen, video: &[u32], frame: u32, patterns: &[u32], out: &mut [u8])
-    requires { ByRows s (length video.now) × (mono s.words ≡ false → Patterns patterns.now) × (frame_bytes s.words ≤ length out.old) }
+fn draw_rows(s: Screen, video: &[u32], frame: u32, patterns: Option<&Patterns>, out: &mut [u8])
+    requires { ByRows s (length video.now) × (is_none patterns ≡ mono s.words) × (frame_bytes s.words ≤ length out.old) }
     ensures { out.new ≡ stores (stn_byte s video.now frame) 0 (frame_bytes s.words) out.old }
 {
-    let of_mono = mono(s.words);
     let bswp = s.words.bswp() == 1;
     let words = (s.words.pagewidth() / 2) as usize;
     let bytes = row_bytes(s.words) as usize;
-    let high = height(s.words);
-    let mut row = 0;
-    while row < high {
+    for row in 0..height(s.words) {
         let from = first_word(s, row);
-        let phase = (row_phase(frame, row) % 420) as usize;
+        let at = row as usize * bytes;
         draw_row(
-            of_mono,
+            &video[from..from + words],
             bswp,
-            video,
-            from,
-            words,
-            phase,
             patterns,
-            row as usize * bytes,
-            out,
+            Phase::new(frame, row),
+            &mut out[at..at + bytes],
         );
-        row += 1;
     }
 }
 
@@ -89,10 +64,8 @@ pub(crate) fn draw_frame(s: Screen, video: &[u32], frame: u32, out: &mut [u8])
     ensures { out.new ≡ stores (stn_byte s video.now frame) 0 (frame_bytes s.words) out.old }
 {
     if mono(s.words) {
-        draw_rows(s, video, frame, &[0], out);
+        draw_rows(s, video, frame, None, out);
     } else {
-        let mut patterns = [0u32; 427];
-        fill_patterns(&mut patterns);
-        draw_rows(s, video, frame, &patterns, out);
+        draw_rows(s, video, frame, Some(&Patterns::new()), out);
     }
 }

@@ -1,52 +1,33 @@
 -- `settings::make_stores` meets its contract: one store a turn.
-use mathlib.Core.Path.{refl}
-use Prim.Native.Nat.{◌<◌}
+use mathlib.Core.Path.{refl, ap}
 use native.Mathlib.Omega.{arith}
-use lib.ListN.{get_or}
-use Rattle.registers.specs.Loading.{nine_words}
-use Rattle.settings.specs.Core.{ten_entries}
-use Rattle.settings.specs.Stores.{ten_stores, after_stores}
-use Rattle.settings.proofs.Storing.{within-nine, length-kept, next-made, cut-made, all_made}
+use lib.ListN.{take}
+use Rattle.settings.specs.Stores.{after_stores}
+use Rattle.settings.proofs.Storing.{within-nine, length-kept, next-made, all_made}
 use Rattle.settings.proofs.make_stores.Goals as goal
 
-pub loop-i-init : goal.loop-i-init
+pub loop-store-init : goal.loop-store-init
 unfolding after_stores
-loop-i-init c = (omega arith, (omega arith, refl))
+loop-store-init c = refl
 
-pub offset_bounds-stored-i : goal.offset_bounds-stored-i
-unfolding ten_stores
-offset_bounds-stored-i c =
-    let new = nine_words c.args.words.now in
-    let goes-within : get_or (ten_entries new) c.loop-i.i 0 < 9 = within-nine new _ _ c.loop-i.i c.loop-i.invariant.1.1 in
-    record { fits = omega (arith, goes-within) }
+pub offset_bounds-stored-store : goal.offset_bounds-stored-store
+offset_bounds-stored-store c =
+    let within = within-nine c.args.w c.args.stored.now c.loop-store.stored c.loop-store.store-index c.min-made.result _
+    (ap (take c.min-made.result) c.ten_stores.ensures) c.loop-store.invariant c.loop-store-test.true in
+    record { fits = omega (arith, within) }
 
-pub bounds-stored-i : goal.bounds-stored-i
-unfolding ten_stores
-bounds-stored-i c =
-    let new = nine_words c.args.words.now in
-    let goes-within : get_or (ten_entries new) c.loop-i.i 0 < 9 = within-nine new _ _ c.loop-i.i c.loop-i.invariant.1.1 in
-    omega (arith, goes-within, length-kept new _ _ c.loop-i.i c.loop-i.invariant.1.1)
+pub bounds-stored-store : goal.bounds-stored-store
+bounds-stored-store c =
+    let same = ap (take c.min-made.result) c.ten_stores.ensures in
+    let within = within-nine c.args.w c.args.stored.now c.loop-store.stored c.loop-store.store-index c.min-made.result _
+    same c.loop-store.invariant c.loop-store-test.true in
+    omega (arith, within, length-kept c.args.w _ _ _ _ _ same c.loop-store.invariant)
 
-pub loop-i-preserved : goal.loop-i-preserved
-unfolding ten_stores
-loop-i-preserved c = (
-  omega arith,
-  (
-    omega arith,
-    next-made (nine_words c.args.words.now) _ _ c.loop-i.i c.loop-i.invariant.1.1 _ c.ten_words-wanted.ensures (omega arith),
-  ),
-)
+pub loop-store-preserved : goal.loop-store-preserved
+loop-store-preserved c =
+    next-made c.args.w _ _ _ _ _ (ap (take c.min-made.result) c.ten_stores.ensures) c.loop-store.invariant c.loop-store-test.true
 
-pub shape_of-stored-else-i-cut : goal.shape_of-stored-else-i-cut
-shape_of-stored-else-i-cut c = length-kept (nine_words c.args.words.now) _ _ c.loop-i.i c.loop-i.invariant.1.1
-
-pub returns-else-i-cut : goal.returns-else-i-cut
-returns-else-i-cut c =
-    cut-made (nine_words c.args.words.now) _ _ c.loop-i.i c.loop-i.invariant.1.1 c.args.cut (omega arith)
-
-pub shape_of-stored-after-loop-i : goal.shape_of-stored-after-loop-i
-shape_of-stored-after-loop-i c = length-kept (nine_words c.args.words.now) _ _ c.loop-i.i c.loop-i.invariant.1.1
-
-pub returns-after-loop-i : goal.returns-after-loop-i
-returns-after-loop-i c =
-    all_made (nine_words c.args.words.now) _ _ c.loop-i.i c.loop-i.invariant.1.1 c.args.cut (omega arith) (omega arith)
+pub returns : goal.returns
+returns c =
+    all_made c.args.w _ _ c.loop-store.store-index _ _ (ap (take c.min-made.result) c.ten_stores.ensures) c.loop-store.invariant
+    c.args.cut c.min-made.ensures c.loop-store-test.false

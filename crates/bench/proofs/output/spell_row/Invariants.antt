@@ -1,11 +1,8 @@
 -- The colours before `c` are stored, each with what follows it.
-use Rattle.std.proofs.Common.{length, ◌-◌, ◌*◌, ◌≤◌}
+use Rattle.std.proofs.Common.{◌*◌}
 use Rattle.laws.specs.StoringLaws.{Stored}
 use Rattle.bench.specs.Output.{row_text}
 use Rattle.bench.proofs.output.spell_row.Given as goal
 
 abbrev pub invariant-loop-c : goal.invariant-loop-c
-invariant-loop-c l = (l.c ≤ length l.row) × Stored (row_text l.row) 0 l.initial.text l.text (7 * l.c)
-
-abbrev pub decreases-loop-c : goal.decreases-loop-c
-decreases-loop-c l = length l.row - l.c
+invariant-loop-c l = Stored (row_text l.row) 0 l.initial.text l.text (7 * l.c)

@@ -1,12 +1,8 @@
 -- `stn::rows::draw_rows` meets its contract: a row a turn.
-use Prim.Native.Nat.{◌-◌, ◌*◌, ◌≤◌}
+use Prim.Native.Nat.{◌*◌}
 use Rattle.laws.specs.StoringLaws.{Stored}
 use Rattle.stn.specs.Drawing.{row_bytes, stn_byte}
 use Rattle.stn.proofs.rows.draw_rows.Given as goal
 
 abbrev pub invariant-loop-row : goal.invariant-loop-row
-invariant-loop-row l =
-    (l.row ≤ l.high) × Stored (stn_byte l.s l.video l.frame) 0 l.initial.out l.out (l.row * row_bytes l.s.words)
-
-abbrev pub decreases-loop-row : goal.decreases-loop-row
-decreases-loop-row l = l.high - l.row
+invariant-loop-row l = Stored (stn_byte l.s l.video l.frame) 0 l.initial.out l.out (l.row * row_bytes l.s.words)

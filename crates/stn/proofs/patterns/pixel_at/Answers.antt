@@ -1,7 +1,7 @@
--- `stn::words::pixel_at` meets its contract.
+-- `stn::patterns::pixel_at` meets its contract.
 use mathlib.Core.Path.{refl, ◌∙◌}
 use Rattle.pixels.proofs.PixelOrder.{cut-by-shifts, pixel-past}
-use Rattle.stn.proofs.words.pixel_at.Goals as goal
+use Rattle.stn.proofs.patterns.pixel_at.Goals as goal
 
 pub returns : goal.returns
 returns c =
