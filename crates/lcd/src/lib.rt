@@ -11,14 +11,14 @@ ghost use Rattle.settings.specs.Stores.{load_settings};
 ghost use Rattle.sizes.specs.Counts.{read_counts};
 ghost use Rattle.lcd.specs.Calls.{draw_row, draw_picture, draw_stn};
 
-use drawing::picture::draw_picture;
-use drawing::row::draw_row;
-use memory::{Screen, check};
-use registers::{Loaded, load};
+use drawing::Lent;
+use drawn::{picture_of, row_of, stn_frame_of};
+use memory::check;
+use registers::refusal::code;
 use settings::load_settings;
 use sizes::counts::read_counts;
-use stn::draw_stn;
 
+mod drawn;
 pub mod pixel;
 pub mod reading;
 pub mod scan;
@@ -29,7 +29,7 @@ pub mod scan;
 pub extern "C" fn lcd_check(words: &[u32], window_start: u32, video: &[u32]) -> u32
     ensures { result ≡ check words.now window_start video.now }
 {
-    check(words, window_start, video)
+    code(check(words, window_start, video))
 }
 
 // Loads new words into the first nine entries of `stored`, by the first `cut` of ten stores (§1.8); the others stay. Refusals: 10 for
@@ -44,7 +44,7 @@ pub extern "C" fn lcd_load(
 ) -> u32
     ensures { leaves result stored.new ≡ load_settings stored.old words.now window_start video.now cut }
 {
-    load_settings(stored, words, window_start, video, cut)
+    code(load_settings(stored, words, window_start, video, cut))
 }
 
 // The frame's clocks, its HCLK ticks and its rate in millihertz (§10.3) go to the first three entries of `counts`; the others stay.
@@ -54,7 +54,7 @@ pub extern "C" fn lcd_load(
 pub extern "C" fn lcd_counts(words: &[u32], edition: u32, hclk: u32, counts: &mut [u64]) -> u32
     ensures { leaves result counts.new ≡ read_counts words.now edition hclk counts.old }
 {
-    read_counts(words, edition, hclk, counts)
+    code(read_counts(words, edition, hclk, counts))
 }
 
 // One row goes to the first W entries of `out`; the others stay (§5.6). Refusals: 10 for `words` with fewer than nine entries, 1 to 9,
@@ -70,16 +70,8 @@ pub extern "C" fn lcd_draw_row(
 ) -> u32
     ensures { leaves result out.new ≡ draw_row words.now window_start (lending video.now palette.now) row out.old }
 {
-    match load(words) {
-        Loaded::Nine(w) => {
-            let s = Screen {
-                words: w,
-                window_start,
-            };
-            draw_row(s, video, palette, row, out)
-        }
-        Loaded::Refused(n) => n,
-    }
+    let lent = Lent { video, palette };
+    code(row_of(words, window_start, lent, row, out))
 }
 
 // The picture goes to the first W × H entries of `picture`, row by row; the others stay (§5.6). Refusals: 10 for `words` with fewer
@@ -94,16 +86,8 @@ pub extern "C" fn lcd_draw_picture(
 ) -> u32
     ensures { leaves result picture.new ≡ draw_picture words.now window_start (lending video.now palette.now) picture.old }
 {
-    match load(words) {
-        Loaded::Nine(w) => {
-            let s = Screen {
-                words: w,
-                window_start,
-            };
-            draw_picture(s, video, palette, picture)
-        }
-        Loaded::Refused(n) => n,
-    }
+    let lent = Lent { video, palette };
+    code(picture_of(words, window_start, lent, picture))
 }
 
 // Frame `frame` of an STN panel goes to the first W × H / 8 bytes of `out`, eight pixels to a byte, row by row; the others stay (§5.10).
@@ -118,14 +102,5 @@ pub extern "C" fn lcd_draw_stn(
 ) -> u32
     ensures { leaves result out.new ≡ draw_stn words.now window_start video.now frame out.old }
 {
-    match load(words) {
-        Loaded::Nine(w) => {
-            let s = Screen {
-                words: w,
-                window_start,
-            };
-            draw_stn(s, video, frame, out)
-        }
-        Loaded::Refused(n) => n,
-    }
+    code(stn_frame_of(words, window_start, video, frame, out))
 }

@@ -8,6 +8,7 @@ ghost use Rattle.sizes.specs.Sizes.{read_sizes};
 
 use entries::reading::read_fields;
 use entries::writing::write_fields;
+use registers::refusal::code;
 use sizes::read_sizes;
 
 // The 34 fields (§1.4) go to the first 34 entries of `fields`; the others stay. Refusals: 10 for `words` with fewer than nine entries,
@@ -16,7 +17,7 @@ use sizes::read_sizes;
 pub extern "C" fn lcd_read_fields(words: &[u32], fields: &mut [u32]) -> u32
     ensures { leaves result fields.new ≡ read_fields words.now fields.old }
 {
-    read_fields(words, fields)
+    code(read_fields(words, fields))
 }
 
 // The first 34 entries of `fields` are packed into the nine words (§1.5), read-only bits 0. These go to the first nine entries of
@@ -25,7 +26,7 @@ pub extern "C" fn lcd_read_fields(words: &[u32], fields: &mut [u32]) -> u32
 pub extern "C" fn lcd_write_fields(fields: &[u32], words: &mut [u32]) -> u32
     ensures { leaves result words.new ≡ write_fields fields.now words.old }
 {
-    write_fields(fields, words)
+    code(write_fields(fields, words))
 }
 
 // The panel's 12 sizes go to the first 12 entries of `sizes`; the others stay. Refusals: 10 for `words` with fewer than nine entries,
@@ -34,5 +35,5 @@ pub extern "C" fn lcd_write_fields(fields: &[u32], words: &mut [u32]) -> u32
 pub extern "C" fn lcd_read_sizes(words: &[u32], sizes: &mut [u32]) -> u32
     ensures { leaves result sizes.new ≡ read_sizes words.now sizes.old }
 {
-    read_sizes(words, sizes)
+    code(read_sizes(words, sizes))
 }

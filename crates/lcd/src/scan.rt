@@ -3,6 +3,8 @@ ghost use Rattle.std.specs.Prelude.{◌≡◌};
 ghost use Rattle.laws.specs.Answers.{leaves};
 ghost use Rattle.scans.specs.Scan.{start_scan, step_leaves, step_scan, run_leaves, run_scan, change_scan};
 
+use drawing::Lent;
+use registers::refusal::code;
 use scans::{change_scan, run_scan, start_scan, step_scan};
 
 // Starts a scan (§7.2) and stores its state in `scan`. Refusals: 10 for `words` with fewer than nine entries, 1 to 8, 9, 10 for `scan`
@@ -16,7 +18,7 @@ pub extern "C" fn lcd_start(
 ) -> u32
     ensures { leaves result scan.new ≡ start_scan words.now window_start video.now scan.old }
 {
-    start_scan(words, window_start, video, scan)
+    code(start_scan(words, window_start, video, scan))
 }
 
 // Steps one clock (§7.3): the next state goes to `scan`, VSYNC, HSYNC, VDEN and VD to entries 0 to 3 of `clock`. Refusals: 10 for
@@ -31,7 +33,8 @@ pub extern "C" fn lcd_step(
 ) -> u32
     ensures { step_leaves result scan.new clock.new ≡ step_scan scan.old video.now palette.now clock.old }
 {
-    step_scan(scan, video, palette, clock)
+    let lent = Lent { video, palette };
+    code(step_scan(scan, lent, clock))
 }
 
 // Runs up to `clocks` clocks, to the end of the frame at most (§7.4): the next state goes to `scan`, the count of clocks taken to
@@ -49,7 +52,8 @@ pub extern "C" fn lcd_run(
 ) -> u32
     ensures { run_leaves result scan.new picture.new taken.new ≡ run_scan scan.old video.now palette.now clocks picture.old taken.old }
 {
-    run_scan(scan, video, palette, clocks, picture, taken)
+    let lent = Lent { video, palette };
+    code(run_scan(scan, lent, clocks, picture, taken))
 }
 
 // Makes a new LCDSADDR1 and LCDSADDR2 the pending viewport (§7.5), in force from the next frame (§7.6). Refusals: 10 for `scan` with
@@ -63,5 +67,5 @@ pub extern "C" fn lcd_change_viewport(
 ) -> u32
     ensures { leaves result scan.new ≡ change_scan scan.old video.now lcdsaddr1 lcdsaddr2 }
 {
-    change_scan(scan, video, lcdsaddr1, lcdsaddr2)
+    code(change_scan(scan, video, lcdsaddr1, lcdsaddr2))
 }

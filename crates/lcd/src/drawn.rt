@@ -1,0 +1,64 @@
+// What is drawn of words in a slice (§5.6, §5.10): fewer than nine are refused by 10 before all else (§9.3).
+ghost use Rattle.std.specs.Prelude.{◌≡◌};
+ghost use Rattle.drawing.specs.Colour.{contents};
+ghost use Rattle.laws.specs.Answers.{leaves};
+ghost use Rattle.registers.specs.Refusals.{code};
+ghost use Rattle.lcd.specs.Calls.{draw_row, draw_picture, draw_stn};
+
+use drawing::Lent;
+use drawing::picture::draw_picture;
+use drawing::row::draw_row;
+use memory::Screen;
+use registers::load;
+use registers::refusal::Refusal;
+use stn::draw_stn;
+
+pub(crate) fn row_of(
+    words: &[u32],
+    window_start: u32,
+    lent: Lent,
+    row: u32,
+    out: &mut [u32],
+) -> Result<(), Refusal>
+    ensures { leaves (code result) out.new ≡ draw_row words.now window_start (contents lent.entry) row out.old }
+{
+    let words = load(words)?;
+    let s = Screen {
+        words,
+        window_start,
+    };
+    draw_row(s, lent, row, out)
+}
+
+pub(crate) fn picture_of(
+    words: &[u32],
+    window_start: u32,
+    lent: Lent,
+    picture: &mut [u32],
+) -> Result<(), Refusal>
+    ensures { leaves (code result) picture.new ≡ draw_picture words.now window_start (contents lent.entry) picture.old }
+{
+    let words = load(words)?;
+    let s = Screen {
+        words,
+        window_start,
+    };
+    draw_picture(s, lent, picture)
+}
+
+pub(crate) fn stn_frame_of(
+    words: &[u32],
+    window_start: u32,
+    video: &[u32],
+    frame: u32,
+    out: &mut [u8],
+) -> Result<(), Refusal>
+    ensures { leaves (code result) out.new ≡ draw_stn words.now window_start video.now frame out.old }
+{
+    let words = load(words)?;
+    let s = Screen {
+        words,
+        window_start,
+    };
+    draw_stn(s, video, frame, out)
+}
