@@ -21,8 +21,6 @@ pub fn judge_drawing(s: Screen, lent: Lent, short: bool) -> Result<(), Refusal>
 {
     judge_memory(s, lent.video.len())?;
     refuse_if(video_off(s.words), Refusal::VideoOff)?;
-    refuse_if(
-        palette_wrong(lent.palette.len()) | short,
-        Refusal::WrongLength,
-    )
+    let wrong_length = palette_wrong(lent.palette.len()) | short;
+    refuse_if(wrong_length, Refusal::WrongLength)
 }

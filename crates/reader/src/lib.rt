@@ -3,12 +3,16 @@
 #![tactic(auto)]
 
 ghost use Rattle.std.specs.Prelude.{◌≡◌};
-ghost use Rattle.drawing.specs.Colour.{lending};
-ghost use Rattle.drawing.specs.Drawing.{drawn_pixel, draw_pixel};
+ghost use Rattle.registers.specs.Refusals.{answer};
+ghost use Rattle.drawing.specs.Colour.{contents};
+ghost use Rattle.drawing.specs.Drawing.{draw_pixel};
 ghost use Rattle.reader.specs.Reading.{reader_of, look_up};
 
-use drawing::pixel::{Drawn, draw_pixel};
+use drawing::Lent;
+use drawing::pixel::draw_pixel;
 use memory::Screen;
+use panel::geometry::Place;
+use registers::refusal::Refusal;
 
 // The words with their window start, and the lent memory.
 #[derive(Clone, Copy)]
@@ -25,17 +29,21 @@ impl<'a> Reader<'a> {
         Reader { screen, video }
     }
 
-    // The colour of the pixel in a row and column, or the number of the refusal, as `draw_pixel` gives it (§5.6).
-    pub fn pixel(self, palette: &[u16], row: u32, column: u32) -> Drawn
-        ensures { drawn_pixel result ≡ look_up self.entry palette.now row column }
+    // The colour of the pixel at a place, or the refusal, as `draw_pixel` gives it (§5.6).
+    pub fn pixel(self, palette: &[u16], place: Place) -> Result<u32, Refusal>
+        ensures { answer result ≡ look_up self.entry palette.now place.row place.column }
     {
-        draw_pixel(self.screen, self.video, palette, row, column)
+        let lent = Lent {
+            video: self.video,
+            palette,
+        };
+        draw_pixel(self.screen, lent, place)
     }
 }
 
 // One pixel through a reader made for it, for a caller with a single pixel to ask for.
-pub fn read_pixel(screen: Screen, video: &[u32], palette: &[u16], row: u32, column: u32) -> Drawn
-    ensures { drawn_pixel result ≡ draw_pixel screen (lending video.now palette.now) row column }
+pub fn read_pixel(screen: Screen, lent: Lent, place: Place) -> Result<u32, Refusal>
+    ensures { answer result ≡ draw_pixel screen (contents lent.entry) place.row place.column }
 {
-    Reader::new(screen, video).pixel(palette, row, column)
+    Reader::new(screen, lent.video).pixel(lent.palette, place)
 }
