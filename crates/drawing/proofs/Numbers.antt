@@ -1,9 +1,6 @@
 -- What is drawn by the format and a row's first word, and by a pixel's number in reading order (§5.6).
-use mathlib.Core.List.{List}
-use mathlib.Core.Path.{◌≡◌, sym, ap₂, ◌∙◌}
+use mathlib.Core.Path.{◌≡◌, sym, ap₂}
 use Prim.Native.Nat.{ℕ, ◌/◌, ◌%◌}
-use Rattle.laws.specs.Storing.{stores}
-use Rattle.laws.specs.StoringLaws.{stores_as}
 use Rattle.panel.specs.Geometry.{width}
 use Rattle.pixels.specs.Format.{format}
 use Rattle.pixels.specs.Pixel.{indexed}
@@ -17,13 +14,6 @@ module _ (s : Screen) (l : Lent) (r : ℕ) (f : Format) (base : ℕ) (is-format 
   pub colour-is : (c : ℕ) → row_colour f (indexed f l.palette) l.memory base c ≡ colour s l r c
   unfolding colour
   colour-is c = ap₂ (λ (g : Format) (b : ℕ). row_colour g (indexed g l.palette) l.memory b c) is-format is-first
-
-  pub row-drawn : (n : ℕ) (row left : List ℕ) → n ≡ width s.words
-      → left ≡ stores (λ i. row_colour f (indexed f l.palette) l.memory base i) 0 n row
-      → left ≡ stores (colour s l r) 0 (width s.words) row
-  row-drawn n row left e d =
-      d
-      ∙ stores_as (row_colour f (indexed f l.palette) l.memory base) (colour s l r) 0 n (width s.words) row e (λ i h. colour-is i)
 
 -- the colour of a pixel by its number in reading order
 pub in_order : (s : Screen) (l : Lent) (i r c : ℕ) → i / width s.words ≡ r → i % width s.words ≡ c

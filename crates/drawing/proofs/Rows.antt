@@ -69,7 +69,3 @@ module _ (wide high first end row a b : ℕ) (t : Turn wide high first end row a
 pub all-drawn : (wide first end row : ℕ) → 0 < wide → div_ceil end wide ≤ row → min (row * wide) end - first ≡ end - first
 all-drawn wide first end row some past =
     omega (arith, (div_ceil_times end wide some).0, mul-le-mul_right {m = div_ceil end wide} {n = row} wide past)
-
--- before the first, none are
-pub none-drawn : (wide first end : ℕ) → min (first / wide * wide) end - first ≡ 0
-none-drawn wide first end = omega (arith, div-add-mod' first wide)
