@@ -16,12 +16,14 @@ pub(crate) fn length_refused(n: usize) -> bool
     (tail % 4 != 0) | (32768 < tail)
 }
 
+#[tactic(auto, unfolding(crate::specs::Input::low_first))]
 fn word(bytes: [u8; 4]) -> u32
     ensures { result ≡ low_first bytes 0 4 }
 {
     u32::from_le_bytes(bytes)
 }
 
+#[tactic(auto, unfolding(crate::specs::Input::low_first))]
 fn half(bytes: [u8; 2]) -> u16
     ensures { result ≡ low_first bytes 0 2 }
 {

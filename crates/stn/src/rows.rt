@@ -13,6 +13,7 @@ use panel::geometry::{height, stn_width};
 use registers::Words;
 
 // Bytes of a row: one for eight pixels.
+#[tactic(auto, unfolding(crate::specs::Drawing::row_bytes))]
 pub(crate) fn row_bytes(w: Words) -> u32
     ensures value { result ≡ row_bytes w }
     ensures upper_bound { result ≤ 2048 }
