@@ -6,6 +6,7 @@ ghost use Rattle.bench.specs.Input.{length_refused, low_first};
 use std::alloc::{AllocError, Global};
 
 // Whether an input of n bytes is refused with 14 (§11.3). The video words begin at byte 556.
+#[tactic(auto, unfolding(crate::specs::Input::length_refused))]
 pub(crate) fn length_refused(n: usize) -> bool
     ensures { result ≡ length_refused n }
 {

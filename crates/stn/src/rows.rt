@@ -28,6 +28,7 @@ fn mono(w: Words) -> bool
 }
 
 // The words of a row. A mono row has no patterns.
+#[tactic(auto, unfolding(crate::specs::Greys::row_byte, crate::specs::Greys::lit_bits))]
 fn draw_row(words: &[u32], bswp: bool, patterns: Option<&Patterns>, phase: Phase, out: &mut [u8])
     requires { length out.old ≡ bytes_of (is_none patterns) (length words.now) }
     ensures { out.new ≡ stores (row_byte (bits_in (is_none patterns.entry)) bswp words.now 0 phase.number) 0 (length out.old) out.old }
