@@ -6,6 +6,7 @@ ghost use Rattle.bench.specs.Input.{length_refused, low_first};
 use std::alloc::{AllocError, Global};
 
 // Whether an input of n bytes is refused with 14 (§11.3). The video words begin at byte 556.
+#[tactic(auto, unfolding(crate::specs::Input::length_refused))]
 pub(crate) fn length_refused(n: usize) -> bool
     ensures { result ≡ length_refused n }
 {
@@ -16,12 +17,14 @@ pub(crate) fn length_refused(n: usize) -> bool
     (tail % 4 != 0) | (32768 < tail)
 }
 
+#[tactic(auto, unfolding(crate::specs::Input::low_first))]
 fn word(bytes: [u8; 4]) -> u32
     ensures { result ≡ low_first bytes 0 4 }
 {
     u32::from_le_bytes(bytes)
 }
 
+#[tactic(auto, unfolding(crate::specs::Input::low_first))]
 fn half(bytes: [u8; 2]) -> u16
     ensures { result ≡ low_first bytes 0 2 }
 {

@@ -22,6 +22,7 @@ pub(crate) fn print_counts(rt: &impl Print, w: Words, hclk: u32) -> io::Result<(
 }
 
 // The character of a hexadecimal digit.
+#[tactic(auto, unfolding(crate::specs::Output::digit_char))]
 fn digit(d: u32) -> u8
     requires { d < 16 }
     ensures { result ≡ digit_char d }

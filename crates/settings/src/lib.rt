@@ -24,6 +24,7 @@ fn gets(entry: usize, word: u32) -> Store
 }
 
 // LCDCON1 with ENVID 0.
+#[tactic(auto, unfolding(crate::specs::Stores::with_video_off))]
 fn with_video_off(lcdcon1: u32) -> u32
     ensures { result ≡ with_video_off lcdcon1 }
 {
@@ -31,6 +32,7 @@ fn with_video_off(lcdcon1: u32) -> u32
 }
 
 // The ten stores in their order: LCDCON1 with ENVID 0 comes first, LCDCON1 as wanted last.
+#[tactic(auto, unfolding(crate::specs::Stores::ten_stores))]
 fn ten_stores(w: Words) -> [Store; 10]
     ensures { result ≡ ten_stores w }
 {

@@ -13,6 +13,7 @@ use panel::geometry::{height, stn_width};
 use registers::Words;
 
 // Bytes of a row: one for eight pixels.
+#[tactic(auto, unfolding(crate::specs::Drawing::row_bytes))]
 pub(crate) fn row_bytes(w: Words) -> u32
     ensures value { result ≡ row_bytes w }
     ensures upper_bound { result ≤ 2048 }
@@ -27,6 +28,7 @@ fn mono(w: Words) -> bool
 }
 
 // The words of a row. A mono row has no patterns.
+#[tactic(auto, unfolding(crate::specs::Greys::row_byte, crate::specs::Greys::lit_bits))]
 fn draw_row(words: &[u32], bswp: bool, patterns: Option<&Patterns>, phase: Phase, out: &mut [u8])
     requires { length out.old ≡ bytes_of (is_none patterns) (length words.now) }
     ensures { out.new ≡ stores (row_byte (bits_in (is_none patterns.entry)) bswp words.now 0 phase.number) 0 (length out.old) out.old }
