@@ -26,25 +26,26 @@ fn print_rows(
     lent: Lent,
     row: &mut [u32],
 ) -> io::Result<()>
-    requires { length row.old ≤ 2048 }
+    requires { 2048 ≤ length row.old }
 {
+    let wide = width(s.words) as usize;
     for r in 0..height(s.words) {
         if draw_row(s, lent, r, row).is_err() {
             break;
         }
-        print_row(rt, row)?;
+        print_row(rt, &row[..wide])?;
     }
     Ok(())
 }
 
-// Draws the first row to see whether the panel is refused.
+// Draws the first row to see whether the panel is refused. The widest row fits.
 fn print_panel(
     rt: &(impl Print + AllocGlobal),
     s: Screen,
     hclk: u32,
     lent: Lent,
 ) -> io::Result<()> {
-    let mut row = vec![in rt.alloc(); 0u32; width(s.words) as usize]?;
+    let mut row = [0u32; 2048];
     if let Err(refusal) = draw_row(s, lent, 0, &mut row) {
         return print_refused(rt, refusal);
     }
