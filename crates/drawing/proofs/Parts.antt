@@ -1,4 +1,4 @@
--- Pixels that fill whole words of a row (§4.1), and a stretch of the picture in three parts (§5.7).
+-- Pixels that fill whole words of a row (§4.1), in a turn of rows too, and in a stretch of the picture (§5.7).
 use mathlib.Core.List.{List}
 use mathlib.Core.Path.{◌≡◌, ap, ◌∙◌, subst}
 use Prim.Native.Nat.{ℕ, min, max, ◌+◌, ◌-◌, ◌*◌, ◌/◌, ◌%◌, ◌<◌, ◌≤◌, ◌∣◌}
