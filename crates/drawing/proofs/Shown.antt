@@ -10,7 +10,8 @@ use Rattle.std.proofs.Common.{rules, below_more, get_or-set_same, get_or-set_oth
 use Rattle.std.proofs.lemmas.Bool.{cases_lt}
 use Rattle.std.proofs.lemmas.List.{places, length-take-le, length-take, length-drop, get_or_append_left, get_or-append_right}
 use Rattle.laws.specs.Storing.{stores}
-use Rattle.laws.specs.StoringLaws.{stores_as, stored-entries, stored-front}
+use Rattle.laws.specs.StoringLaws.{stores_as, stored-front}
+use Rattle.laws.proofs.PartLaws as PartLaws
 use Rattle.drawing.specs.Core.{Shows}
 
 -- ---- a part of n entries from `at` on
@@ -72,15 +73,5 @@ module _ (g h : ℕ → ℕ) (n : ℕ) (d part : List ℕ) (drawn : Shows h part
 
   pub part-stored : (at : ℕ) → length part ≡ length (take n (drop at d)) → at + n ≤ length d → put_mid at n d part ≡ stores g at n d
   part-stored at size room =
-      stored-entries g at n d (put_mid at n d part) room
-      (part-length at n d part size room)
-      (λ i l.
-      in-part at n d part size room (at + i) (omega arith) (omega arith)
-      ∙ ap (λ (k : ℕ). get_or part k 0) (omega arith)
-      ∙ drawn i (omega (arith, long at n d part size room))
-      ∙ same i l)
-      outside
-    where
-      outside : (j : ℕ) → (j < at) ⊎ (at + n ≤ j) → get_or (put_mid at n d part) j 0 ≡ get_or d j 0
-      outside j (inl below) = before-part at n d part size room j below
-      outside j (inr above) = after-part at n d part size room j above
+      PartLaws.part-stored g at n d part room (long at n d part size room)
+      (λ i l. drawn i (omega (arith, long at n d part size room)) ∙ same i l)

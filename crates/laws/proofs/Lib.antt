@@ -1,3 +1,4 @@
 pub mod CaseLaws
 pub mod BitFieldLaws
 pub mod AnswerLaws
+pub mod PartLaws

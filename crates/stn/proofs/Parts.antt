@@ -1,24 +1,17 @@
 -- A part of a slice: what a slice holds after a part of it was stored to, and what the words of a row show that are lent alone.
 use Rattle.std.specs.Prelude.{Bool, true, false, List, ◌≡◌, ℕ, ◌+◌, ◌*◌, ◌/◌, ◌%◌, ◌<◌, ◌≤◌, length, take, drop, get_or}
-use Rattle.std.proofs.Common.{ap, ◌∙◌, arith, ⊎_elim}
+use Rattle.std.proofs.Common.{ap, ◌∙◌, arith}
 use Rattle.std.specs.List.{between}
 use Rattle.std.proofs.lemmas.List.Edits.{get_or-between}
 use Rattle.std.proofs.lemmas.Grind.{common_steps}
 use borrow.Rule.Slice.PartMut.{put_mid}
 use Rattle.laws.specs.Storing.{stores}
-use Rattle.laws.specs.StoringLaws.{entry-stored, left-length, stored-entries}
+use Rattle.laws.specs.StoringLaws.{entry-stored, left-length}
+use Rattle.laws.proofs.PartLaws.{part-stored}
 use Rattle.pixels.specs.Order.{in_order, pixel_bits, stored_pixel}
 use Rattle.stn.specs.Core.{bits_in, bytes_of}
 use Rattle.stn.specs.Greys.{lit_bits, row_byte}
 use Rattle.stn.proofs.Packing.{packed-same}
-
--- the n entries from `at` on were stored to, and now are h 0, h 1 and so on
-pub part-stored : (h : ℕ → ℕ) (at n : ℕ) (d part : List ℕ) → at + n ≤ length d → length part ≡ n
-    → ((i : ℕ) → i < n → get_or part i 0 ≡ h i) → put_mid at n d part ≡ stores h at n d
-part-stored h at n d part room size is =
-    stored-entries h at n d (put_mid at n d part) room (grind (arith, common_steps))
-    (λ i l. let e = is i l in grind (arith, common_steps))
-    (λ j o. ⊎_elim (λ l. grind (arith, common_steps)) (λ l. grind (arith, common_steps)) o)
 
 -- another function stored all of it
 pub part-filled : (g h : ℕ → ℕ) (at n : ℕ) (d part : List ℕ)

@@ -4,7 +4,7 @@ use Rattle.std.proofs.Common.{◌∙◌, arith}
 use Rattle.std.specs.Int.{to_be_bytes, w32}
 use Rattle.laws.specs.StoringLaws.{none-stored, some_more, so-many-stored, all-stored}
 use Rattle.pixels.specs.Order.{pixel_bits}
-use Rattle.stn.proofs.Parts.{part-stored}
+use Rattle.laws.proofs.PartLaws.{part-stored}
 use Rattle.stn.proofs.RowBytes.{byte-of-mono}
 use Rattle.stn.proofs.words.draw_mono.Goals as goal
 
