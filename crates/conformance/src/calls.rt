@@ -1,178 +1,158 @@
-// The calls that draw: a pixel, a row, a picture (§5.6), a stretch (§5.7). Each is made with what is lent, and its answer compared with
-// what is due, the numbers after the line's `=`: the number of the refusal or 0, then the entries. A stretch judges nothing, so its
-// answer is 0.
+// The calls that keep no state. Each is made with what is lent, and its answer compared with what is due, the numbers after the line's
+// `=`: the number of the refusal or 0, then the values. By rule edition 1: the check, a frame's counts and its rate. Those that draw: a
+// pixel, a row, a picture (§5.6), a stretch (§5.7), which judges nothing, so that its answer is 0.
 use super::case::Case;
-use super::lent::{lend_palette, lend_video, lend_words};
-use super::listed::{entries_agree, prefill, up_to};
-use super::lookups::{Place, drawing_read, lookup_agrees};
-use super::report::{answer_agrees, number_agrees, value_agrees};
-use super::text::low_32;
-use drawing::picture::{draw_picture, draw_stretch};
+use super::lookups::{Place, entries_read, lookup_agrees};
+use super::settings::Settings;
+use drawing::picture::{draw_picture, draw_stretch, pixels_of};
 use drawing::pixel::{Drawn, draw_pixel};
 use drawing::row::draw_row;
-use memory::Screen;
-use registers::{Loaded, Words, load};
+use memory::{Screen, check};
+use panel::frame::{Counted, Rated, frame_counts, frame_rate};
+use panel::geometry::width;
 use std::io;
 
-#[derive(Clone, Copy)]
-pub(crate) enum Shape {
-    Pixel,
-    Row,
-    Picture,
-    Stretch,
+pub(crate) fn check_agrees(
+    case: &Case<'_, impl Print + AllocGlobal>,
+    lent: &Settings,
+) -> io::Result<bool> {
+    case.refused(check(&lent.words, lent.window_start, &lent.video))
 }
 
-fn drawn_agrees(rt: &impl Print, case: Case<'_>, drawn: Drawn) -> io::Result<bool> {
-    match drawn {
-        Drawn::Colour(colour) => value_agrees(rt, case, colour as u64),
-        Drawn::Refused(n) => answer_agrees(rt, case, n),
+pub(crate) fn counts_agree(
+    case: &Case<'_, impl Print + AllocGlobal>,
+    lent: &Settings,
+) -> io::Result<bool> {
+    match frame_counts(&lent.words, 1) {
+        Counted::Frame(frame) => case.accepted(&[
+            ("value", u64::from(frame.clocks)),
+            ("ticks", frame.ticks),
+        ]),
+        Counted::Refused(n) => case.refused(n),
     }
 }
 
-// One pixel, drawn and through a reader.
-fn pixel_agrees(
-    rt: &impl Print,
-    case: Case<'_>,
-    s: Screen,
-    palette: &[u16],
-    video: &[u32],
+pub(crate) fn rate_agrees(
+    case: &Case<'_, impl Print + AllocGlobal>,
+    lent: &Settings,
 ) -> io::Result<bool> {
-    let given = case.given;
+    match frame_rate(&lent.words, 1, lent.hclk) {
+        Rated::Millihertz(rate) => case.accepted(&[("value", rate)]),
+        Rated::Refused(n) => case.refused(n),
+    }
+}
+
+// One pixel of a screen, drawn and through a reader.
+fn drawn_agrees(
+    case: &Case<'_, impl Print + AllocGlobal>,
+    lent: &Settings,
+    screen: Screen,
+) -> io::Result<bool> {
     let place = Place {
-        row: low_32(given.first),
-        column: low_32(given.second),
+        row: case.given_word(0),
+        column: case.given_word(1),
     };
-    let drawn = draw_pixel(s, video, palette, place.row, place.column);
-    let read = lookup_agrees(rt, case, s, palette, video, place, drawn)?;
-    Ok(drawn_agrees(rt, case, drawn)? & read)
+    let drawn = draw_pixel(screen, &lent.video, &lent.palette, place.row, place.column);
+    let read = lookup_agrees(case, lent, screen, place, drawn)?;
+    let right = match drawn {
+        Drawn::Colour(colour) => case.accepted(&[("value", u64::from(colour))])?,
+        Drawn::Refused(n) => case.refused(n)?,
+    };
+    Ok(right & read)
 }
 
-fn draw(
-    case: Case<'_>,
-    shape: Shape,
-    s: Screen,
-    palette: &[u16],
-    video: &[u32],
+pub(crate) fn pixel_agrees(
+    case: &Case<'_, impl Print + AllocGlobal>,
+    lent: &Settings,
+) -> io::Result<bool> {
+    match lent.screen() {
+        Ok(screen) => drawn_agrees(case, lent, screen),
+        Err(n) => case.refused(n),
+    }
+}
+
+// What an accepted call has drawn: so many entries in reading order, from the first column of a row on.
+#[derive(Clone, Copy)]
+struct Drawing {
+    row: u32,
+    entries: u32,
+}
+
+// A number of refusal or 0 as a result.
+fn accepted(answer: u32) -> Result<(), u32> {
+    if answer == 0 { Ok(()) } else { Err(answer) }
+}
+
+fn draw_lent<F: FnOnce(Screen, &mut [u32]) -> Result<Drawing, u32>>(
+    lent: &Settings,
+    draw: F,
     out: &mut [u32],
-) -> u32 {
-    let given = case.given;
-    let second = low_32(given.second);
-    let third = low_32(given.third);
-    match shape {
-        Shape::Row => draw_row(s, video, palette, second, out),
-        Shape::Stretch => {
-            draw_stretch(s, video, palette, second, third, out);
-            0
+) -> Result<(Screen, Drawing), u32>
+    requires { F.IsAlwaysCallable draw }
+{
+    let screen = lent.screen()?;
+    let drawing = draw(screen, out)?;
+    Ok((screen, drawing))
+}
+
+// A call that draws into entries that are lent, as many as the line's first number says: whether its answer and every entry are as due,
+// the line's values from entry `first` on, and whether a reader gives what it has drawn.
+fn drawing_agrees<R: Print + AllocGlobal, F: FnOnce(Screen, &mut [u32]) -> Result<Drawing, u32>>(
+    case: &Case<'_, R>,
+    lent: &Settings,
+    first: u64,
+    draw: F,
+) -> io::Result<bool>
+    requires { F.IsAlwaysCallable draw }
+{
+    let mut out = case.fresh_entries()?;
+    let room = (case.given(0) as usize).min(out.len());
+    let drawn = draw_lent(lent, draw, &mut out[..room]);
+    let answer = drawn.err().unwrap_or(0);
+    let right = case.answers(answer)?;
+    let entries = case.entries_agree(first, &out)?;
+    match drawn {
+        Ok((screen, drawing)) => {
+            let count = (drawing.entries as usize).min(out.len());
+            let read = entries_read(case, lent, screen, drawing.row, &out[..count])?;
+            Ok(right & entries & read)
         }
-        _ => draw_picture(s, video, palette, out),
+        Err(_) => Ok(right & entries),
     }
 }
 
-// Lends the first entries of `out`; the line's first number says how many.
-fn draw_lent(
-    case: Case<'_>,
-    shape: Shape,
-    s: Screen,
-    palette: &[u16],
-    video: &[u32],
-    out: &mut [u32],
-) -> u32 {
-    let given = case.given;
-    let n = up_to(given.first, out);
-    draw(case, shape, s, palette, video, &mut out[..n])
-}
-
-// The first entry that the line gives a value for.
-fn first_entry(case: Case<'_>, shape: Shape) -> usize {
-    let given = case.given;
-    match shape {
-        Shape::Stretch => given.second as usize,
-        _ => 0,
-    }
-}
-
-// Whether the answer and every entry are as due.
-fn outcome_agrees(
-    rt: &impl Print,
-    text: &[u8],
-    case: Case<'_>,
-    shape: Shape,
-    answer: u32,
-    out: &[u32],
+pub(crate) fn row_agrees(
+    case: &Case<'_, impl Print + AllocGlobal>,
+    lent: &Settings,
 ) -> io::Result<bool> {
-    let right = number_agrees(rt, case, answer)?;
-    Ok(entries_agree(rt, text, case, first_entry(case, shape), out)? & right)
+    let row = case.given_word(1);
+    drawing_agrees(case, lent, 0, |screen, out| {
+        accepted(draw_row(screen, &lent.video, &lent.palette, row, out))?;
+        let entries = width(screen.words);
+        Ok(Drawing { row, entries })
+    })
 }
 
-// A row, picture or stretch: what is drawn and, for an accepted row or picture, each of its pixels through a reader.
-fn entries_drawn(
-    rt: &impl Print,
-    text: &[u8],
-    case: Case<'_>,
-    shape: Shape,
-    s: Screen,
-    palette: &[u16],
-    video: &[u32],
+pub(crate) fn picture_agrees(
+    case: &Case<'_, impl Print + AllocGlobal>,
+    lent: &Settings,
 ) -> io::Result<bool> {
-    let mut out = [0u32; 4096];
-    prefill(&mut out);
-    let answer = draw_lent(case, shape, s, palette, video, &mut out);
-    let right = outcome_agrees(rt, text, case, shape, answer, &out)?;
-    if answer != 0 {
-        return Ok(right);
-    }
-    Ok(drawing_read(rt, case, shape, s, palette, video, &out)? & right)
+    drawing_agrees(case, lent, 0, |screen, out| {
+        accepted(draw_picture(screen, &lent.video, &lent.palette, out))?;
+        let entries = pixels_of(screen.words);
+        Ok(Drawing { row: 0, entries })
+    })
 }
 
-fn drawn_of_words(
-    rt: &impl Print,
-    text: &[u8],
-    case: Case<'_>,
-    shape: Shape,
-    w: Words,
+// A stretch begins anywhere in a row and is not read.
+pub(crate) fn stretch_agrees(
+    case: &Case<'_, impl Print + AllocGlobal>,
+    lent: &Settings,
 ) -> io::Result<bool> {
-    let lent = case.lent;
-    let s = Screen {
-        words: w,
-        window_start: lent.window_start,
-    };
-    let mut palette = [0u16; 260];
-    let n = lend_palette(text, lent, &mut palette);
-    let mut video = [0u32; 40960];
-    let m = lend_video(text, lent, &mut video);
-    match shape {
-        Shape::Pixel => pixel_agrees(rt, case, s, &palette[..n], &video[..m]),
-        _ => entries_drawn(rt, text, case, shape, s, &palette[..n], &video[..m]),
-    }
-}
-
-// With too few words nothing is drawn.
-fn undrawn_agrees(
-    rt: &impl Print,
-    text: &[u8],
-    case: Case<'_>,
-    shape: Shape,
-    answer: u32,
-) -> io::Result<bool> {
-    let mut out = [0u32; 4096];
-    prefill(&mut out);
-    match shape {
-        Shape::Pixel => answer_agrees(rt, case, answer),
-        _ => outcome_agrees(rt, text, case, shape, answer, &out),
-    }
-}
-
-// Makes the call, and answers whether it gave what is due.
-pub(crate) fn drawing_agrees(
-    rt: &impl Print,
-    text: &[u8],
-    case: Case<'_>,
-    shape: Shape,
-) -> io::Result<bool> {
-    let mut words = [0u32; 16];
-    let n = lend_words(text, case.lent, &mut words);
-    match load(&words[..n]) {
-        Loaded::Nine(w) => drawn_of_words(rt, text, case, shape, w),
-        Loaded::Refused(n) => undrawn_agrees(rt, text, case, shape, n),
-    }
+    let first = case.given_word(1);
+    let count = case.given_word(2);
+    drawing_agrees(case, lent, case.given(1), |screen, out| {
+        draw_stretch(screen, &lent.video, &lent.palette, first, count, out);
+        Ok(Drawing { row: 0, entries: 0 })
+    })
 }

@@ -1,0 +1,80 @@
+// What the cases of a vector file are lent: each setting holds from its line on.
+use super::text::{low_32, number_at, word_at, words};
+use memory::Screen;
+use registers::{Loaded, load};
+use std::alloc::{AllocError, Global};
+
+// Before any setting all lists are empty.
+#[derive(Drop)]
+pub(crate) struct Settings {
+    pub words: Vec<u32>,
+    pub palette: Vec<u16>,
+    pub video: Vec<u32>,
+    pub window_start: u32,
+    pub hclk: u32,
+}
+
+// The first numbers of a list as palette entries.
+fn entries(alloc: Global, numbers: &[u64]) -> Result<Vec<u16>, AllocError> {
+    numbers
+        .iter()
+        .take(260)
+        .map(|n| (n & 0xffff) as u16)
+        .collect(alloc)
+}
+
+// Video words counted up from a line's count, first word and step.
+fn counted(alloc: Global, numbers: &[u64]) -> Result<Vec<u32>, AllocError> {
+    let first = word_at(numbers, 1);
+    let step = word_at(numbers, 2);
+    (0..number_at(numbers, 0).min(40960))
+        .map(|i| step.wrapping_mul(low_32(i)).wrapping_add(first))
+        .collect(alloc)
+}
+
+impl Settings {
+    pub(crate) fn new(alloc: Global) -> Settings {
+        Settings {
+            words: Vec::new(alloc),
+            palette: Vec::new(alloc),
+            video: Vec::new(alloc),
+            window_start: 0,
+            hclk: 0,
+        }
+    }
+
+    // The settings after a line; a line that is no setting leaves them.
+    pub(crate) fn set(
+        &mut self,
+        alloc: Global,
+        key: &[u8],
+        numbers: &[u64],
+    ) -> Result<(), AllocError> {
+        match key {
+            b"words" => self.words = words(alloc, numbers, 16)?,
+            b"palette" => self.palette = entries(alloc, numbers)?,
+            b"video" => self.video = words(alloc, numbers, 40960)?,
+            b"counted" => self.video = counted(alloc, numbers)?,
+            b"start" => self.window_start = word_at(numbers, 0),
+            b"hclk" => self.hclk = word_at(numbers, 0),
+            _ => {}
+        }
+        Ok(())
+    }
+
+    // The words with their window start, or the number of the refusal where they are not nine.
+    pub(crate) fn screen(&self) -> Result<Screen, u32> {
+        match load(&self.words) {
+            Loaded::Nine(words) => Ok(Screen {
+                words,
+                window_start: self.window_start,
+            }),
+            Loaded::Refused(n) => Err(n),
+        }
+    }
+
+    // The video words that a call of a scan is lent, 1,024 at most.
+    pub(crate) fn scan_video(&self) -> &[u32] {
+        self.video.get(..1024).unwrap_or(&self.video)
+    }
+}
