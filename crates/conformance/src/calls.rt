@@ -2,7 +2,7 @@
 // `=`: the number of the refusal or 0, then the values. By rule edition 1: the check, a frame's counts and its rate. Those that draw: a
 // pixel, a row, a picture (§5.6), a stretch (§5.7), which judges nothing, so that its answer is 0.
 use super::case::Case;
-use super::lookups::{Place, entries_read, lookup_agrees};
+use super::lookups::Place;
 use super::settings::Settings;
 use drawing::picture::{draw_picture, draw_stretch, pixels_of};
 use drawing::pixel::{Drawn, draw_pixel};
@@ -11,65 +11,6 @@ use memory::{Screen, check};
 use panel::frame::{Counted, Rated, frame_counts, frame_rate};
 use panel::geometry::width;
 use std::io;
-
-pub(crate) fn check_agrees(
-    case: &Case<'_, impl Print + AllocGlobal>,
-    lent: &Settings,
-) -> io::Result<bool> {
-    case.refused(check(&lent.words, lent.window_start, &lent.video))
-}
-
-pub(crate) fn counts_agree(
-    case: &Case<'_, impl Print + AllocGlobal>,
-    lent: &Settings,
-) -> io::Result<bool> {
-    match frame_counts(&lent.words, 1) {
-        Counted::Frame(frame) => case.accepted(&[
-            ("value", u64::from(frame.clocks)),
-            ("ticks", frame.ticks),
-        ]),
-        Counted::Refused(n) => case.refused(n),
-    }
-}
-
-pub(crate) fn rate_agrees(
-    case: &Case<'_, impl Print + AllocGlobal>,
-    lent: &Settings,
-) -> io::Result<bool> {
-    match frame_rate(&lent.words, 1, lent.hclk) {
-        Rated::Millihertz(rate) => case.accepted(&[("value", rate)]),
-        Rated::Refused(n) => case.refused(n),
-    }
-}
-
-// One pixel of a screen, drawn and through a reader.
-fn drawn_agrees(
-    case: &Case<'_, impl Print + AllocGlobal>,
-    lent: &Settings,
-    screen: Screen,
-) -> io::Result<bool> {
-    let place = Place {
-        row: case.given_word(0),
-        column: case.given_word(1),
-    };
-    let drawn = draw_pixel(screen, &lent.video, &lent.palette, place.row, place.column);
-    let read = lookup_agrees(case, lent, screen, place, drawn)?;
-    let right = match drawn {
-        Drawn::Colour(colour) => case.accepted(&[("value", u64::from(colour))])?,
-        Drawn::Refused(n) => case.refused(n)?,
-    };
-    Ok(right & read)
-}
-
-pub(crate) fn pixel_agrees(
-    case: &Case<'_, impl Print + AllocGlobal>,
-    lent: &Settings,
-) -> io::Result<bool> {
-    match lent.screen() {
-        Ok(screen) => drawn_agrees(case, lent, screen),
-        Err(n) => case.refused(n),
-    }
-}
 
 // What an accepted call has drawn: so many entries in reading order, from the first column of a row on.
 #[derive(Clone, Copy)]
@@ -95,64 +36,100 @@ fn draw_lent<F: FnOnce(Screen, &mut [u32]) -> Result<Drawing, u32>>(
     Ok((screen, drawing))
 }
 
-// A call that draws into entries that are lent, as many as the line's first number says: whether its answer and every entry are as due,
-// the line's values from entry `first` on, and whether a reader gives what it has drawn.
-fn drawing_agrees<R: Print + AllocGlobal, F: FnOnce(Screen, &mut [u32]) -> Result<Drawing, u32>>(
-    case: &Case<'_, R>,
-    lent: &Settings,
-    first: u64,
-    draw: F,
-) -> io::Result<bool>
-    requires { F.IsAlwaysCallable draw }
-{
-    let mut out = case.fresh_entries()?;
-    let room = (case.given(0) as usize).min(out.len());
-    let drawn = draw_lent(lent, draw, &mut out[..room]);
-    let answer = drawn.err().unwrap_or(0);
-    let right = case.answers(answer)?;
-    let entries = case.entries_agree(first, &out)?;
-    match drawn {
-        Ok((screen, drawing)) => {
-            let count = (drawing.entries as usize).min(out.len());
-            let read = entries_read(case, lent, screen, drawing.row, &out[..count])?;
-            Ok(right & entries & read)
-        }
-        Err(_) => Ok(right & entries),
+impl<R: Print + AllocGlobal> Case<'_, R> {
+    pub(crate) fn check_agrees(&self) -> io::Result<bool> {
+        let lent = self.lent;
+        self.only_answers(check(&lent.words, lent.window_start, &lent.video))
     }
-}
 
-pub(crate) fn row_agrees(
-    case: &Case<'_, impl Print + AllocGlobal>,
-    lent: &Settings,
-) -> io::Result<bool> {
-    let row = case.given_word(1);
-    drawing_agrees(case, lent, 0, |screen, out| {
-        accepted(draw_row(screen, &lent.video, &lent.palette, row, out))?;
-        let entries = width(screen.words);
-        Ok(Drawing { row, entries })
-    })
-}
+    pub(crate) fn counts_agree(&self) -> io::Result<bool> {
+        match frame_counts(&self.lent.words, 1) {
+            Counted::Frame(frame) => self.gives(&[
+                ("value", u64::from(frame.clocks)),
+                ("ticks", frame.ticks),
+            ]),
+            Counted::Refused(n) => self.only_answers(n),
+        }
+    }
 
-pub(crate) fn picture_agrees(
-    case: &Case<'_, impl Print + AllocGlobal>,
-    lent: &Settings,
-) -> io::Result<bool> {
-    drawing_agrees(case, lent, 0, |screen, out| {
-        accepted(draw_picture(screen, &lent.video, &lent.palette, out))?;
-        let entries = pixels_of(screen.words);
-        Ok(Drawing { row: 0, entries })
-    })
-}
+    pub(crate) fn rate_agrees(&self) -> io::Result<bool> {
+        match frame_rate(&self.lent.words, 1, self.lent.hclk) {
+            Rated::Millihertz(rate) => self.gives(&[("value", rate)]),
+            Rated::Refused(n) => self.only_answers(n),
+        }
+    }
 
-// A stretch begins anywhere in a row and is not read.
-pub(crate) fn stretch_agrees(
-    case: &Case<'_, impl Print + AllocGlobal>,
-    lent: &Settings,
-) -> io::Result<bool> {
-    let first = case.given_word(1);
-    let count = case.given_word(2);
-    drawing_agrees(case, lent, case.given(1), |screen, out| {
-        draw_stretch(screen, &lent.video, &lent.palette, first, count, out);
-        Ok(Drawing { row: 0, entries: 0 })
-    })
+    // One pixel of a screen, drawn and through a reader.
+    fn drawn_agrees(&self, screen: Screen) -> io::Result<bool> {
+        let lent = self.lent;
+        let place = Place {
+            row: self.given_word(0),
+            column: self.given_word(1),
+        };
+        let drawn = draw_pixel(screen, &lent.video, &lent.palette, place.row, place.column);
+        let read = self.lookup_agrees(screen, place, drawn)?;
+        let right = match drawn {
+            Drawn::Colour(colour) => self.gives(&[("value", u64::from(colour))])?,
+            Drawn::Refused(n) => self.only_answers(n)?,
+        };
+        Ok(right & read)
+    }
+
+    pub(crate) fn pixel_agrees(&self) -> io::Result<bool> {
+        match self.lent.screen() {
+            Ok(screen) => self.drawn_agrees(screen),
+            Err(n) => self.only_answers(n),
+        }
+    }
+
+    // A call that draws into entries that are lent, as many as the line's first number says: whether its answer and every entry are as
+    // due, the line's values from entry `first` on, and whether a reader gives what it has drawn.
+    fn drawing_agrees<F: FnOnce(Screen, &mut [u32]) -> Result<Drawing, u32>>(
+        &self,
+        first: u64,
+        draw: F,
+    ) -> io::Result<bool>
+        requires { F.IsAlwaysCallable draw }
+    {
+        let mut out = self.fresh_entries()?;
+        let room = (self.given(0) as usize).min(out.len());
+        let drawn = draw_lent(self.lent, draw, &mut out[..room]);
+        let mut right = self.answers(drawn.err().unwrap_or(0))?;
+        right &= self.entries_agree(first, &out)?;
+        if let Ok((screen, drawing)) = drawn {
+            let count = (drawing.entries as usize).min(out.len());
+            right &= self.entries_read(screen, drawing.row, &out[..count])?;
+        }
+        Ok(right)
+    }
+
+    pub(crate) fn row_agrees(&self) -> io::Result<bool> {
+        let lent = self.lent;
+        let row = self.given_word(1);
+        self.drawing_agrees(0, |screen, out| {
+            accepted(draw_row(screen, &lent.video, &lent.palette, row, out))?;
+            let entries = width(screen.words);
+            Ok(Drawing { row, entries })
+        })
+    }
+
+    pub(crate) fn picture_agrees(&self) -> io::Result<bool> {
+        let lent = self.lent;
+        self.drawing_agrees(0, |screen, out| {
+            accepted(draw_picture(screen, &lent.video, &lent.palette, out))?;
+            let entries = pixels_of(screen.words);
+            Ok(Drawing { row: 0, entries })
+        })
+    }
+
+    // A stretch begins anywhere in a row and is not read.
+    pub(crate) fn stretch_agrees(&self) -> io::Result<bool> {
+        let lent = self.lent;
+        let first = self.given_word(1);
+        let count = self.given_word(2);
+        self.drawing_agrees(self.given(1), |screen, out| {
+            draw_stretch(screen, &lent.video, &lent.palette, first, count, out);
+            Ok(Drawing { row: 0, entries: 0 })
+        })
+    }
 }

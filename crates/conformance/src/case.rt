@@ -1,45 +1,24 @@
 // A case of a vector file, and what the program prints of it: a line for each value that differs.
-use super::text::{number_at, numbers, split_before, word_at, words};
+use super::settings::Settings;
+use super::text::{first_numbers, low_32, number_at, word_at};
 use std::alloc::AllocError;
 use std::fmt::Display;
 use std::io;
 
-// A case is a line: the argument that names its file, its line number, the numbers given, which are all that it has, and those due, from
-// its `=` on.
+// A case is a line: the argument that names its file, its line number, the numbers given, which are all that it has, those due, from
+// its `=` on, and what is lent.
 #[derive(Drop)]
 pub(crate) struct Case<'a, R> {
-    rt: &'a R,
-    group: &'a str,
-    line: u64,
-    given: Vec<u64>,
-    due: Vec<u64>,
+    pub rt: &'a R,
+    pub group: &'a str,
+    pub line: u64,
+    pub given: Vec<u64>,
+    pub due: Vec<u64>,
+    pub lent: &'a Settings,
 }
 
-impl<'a, R: Print + AllocGlobal> Case<'a, R> {
-    // The line as a case, whose numbers are in the text after its key.
-    pub(crate) fn new(
-        rt: &'a R,
-        group: &'a str,
-        line: u64,
-        text: &[u8],
-    ) -> Result<Case<'a, R>, AllocError> {
-        let (_, after) = split_before(text, b'=');
-        let given = numbers(rt.alloc(), text)?;
-        let due = numbers(rt.alloc(), after)?;
-        Ok(Case {
-            rt,
-            group,
-            line,
-            given,
-            due,
-        })
-    }
-
-    pub(crate) fn numbers(&self) -> &[u64] {
-        &self.given
-    }
-
-    // Number k of those given, counted from 0.
+impl<R: Print + AllocGlobal> Case<'_, R> {
+    // Number k of those given, counted from 0; a missing one is 0.
     pub(crate) fn given(&self, k: usize) -> u64 {
         number_at(&self.given, k)
     }
@@ -65,6 +44,17 @@ impl<'a, R: Print + AllocGlobal> Case<'a, R> {
         Ok(false)
     }
 
+    // Names the form that differs, where it is not the plain call.
+    pub(crate) fn name_form(&self, form: &str) -> io::Result<()> {
+        let Case {
+            rt,
+            group,
+            line,
+            ..
+        } = self;
+        println!(rt; "{group} line {line}: differs by the {form}")
+    }
+
     // Whether the line's first number is this number of a refusal, or 0.
     pub(crate) fn answers(&self, answer: u32) -> io::Result<bool> {
         self.agrees("answer", u64::from(answer), number_at(&self.due, 0))
@@ -75,13 +65,13 @@ impl<'a, R: Print + AllocGlobal> Case<'a, R> {
     }
 
     // Whether the line's only number is this number of a refusal, or 0.
-    pub(crate) fn refused(&self, answer: u32) -> io::Result<bool> {
+    pub(crate) fn only_answers(&self, answer: u32) -> io::Result<bool> {
         let right = self.lists(1)?;
         Ok(self.answers(answer)? & right)
     }
 
     // Whether the line expects an accepted call with these values.
-    pub(crate) fn accepted(&self, values: &[(&str, u64)]) -> io::Result<bool> {
+    pub(crate) fn gives(&self, values: &[(&str, u64)]) -> io::Result<bool> {
         let mut right = self.lists(values.len() + 1)?;
         right &= self.answers(0)?;
         for ((what, got), k) in values.iter().zip(1..) {
@@ -106,14 +96,14 @@ impl<'a, R: Print + AllocGlobal> Case<'a, R> {
 
     // Whether the line lists these entries, and no more.
     pub(crate) fn list_agrees(&self, got: &[u32]) -> io::Result<bool> {
-        let due = words(self.rt.alloc(), &self.due, got.len())?;
+        let due = first_numbers(self.rt.alloc(), &self.due, got.len(), low_32)?;
         let right = self.lists(got.len())?;
         Ok(self.same_entries(got, &due)? & right)
     }
 
     // Entries to be lent: different numbers, none of them a colour.
     pub(crate) fn fresh_entries(&self) -> Result<Vec<u32>, AllocError> {
-        (0xdead_0000u32..0xdead_1000).collect(self.rt.alloc())
+        (0xdead_0000..0xdead_1000).collect(self.rt.alloc())
     }
 
     // Whether lent entries are as due: the line's values from entry `first` on, the others as they were. After a refusal, whose line lists
@@ -122,19 +112,8 @@ impl<'a, R: Print + AllocGlobal> Case<'a, R> {
         let mut due = self.fresh_entries()?;
         let values = self.due.iter().skip(1);
         for (entry, value) in due.iter_mut().skip(first as usize).zip(values) {
-            *entry = (value & 0xffff_ffff) as u32;
+            *entry = low_32(*value);
         }
         self.same_entries(out, &due)
-    }
-
-    // Names the form that differs, where it is not the plain call.
-    pub(crate) fn name_form(&self, form: &str) -> io::Result<()> {
-        let Case {
-            rt,
-            group,
-            line,
-            ..
-        } = self;
-        println!(rt; "{group} line {line}: differs by the {form}")
     }
 }

@@ -1,8 +1,7 @@
 // The calls of a scan (§7). State and picture are kept from line to line: each call gets what the call before it left.
 use super::case::Case;
-use super::settings::Settings;
 use super::state::{numbers_of, state_of};
-use super::text::{low_32, number_at, word_at};
+use super::text::{number_at, word_at};
 use in_place::{Clocked, step_local};
 use scanout::run::{Ran, run};
 use scanout::start::{Started, start};
@@ -11,7 +10,7 @@ use scanout::step::{Stepped, step};
 use scanout::viewport::{Changed, change_viewport};
 use signals::clock::Clock;
 use std::alloc::{AllocError, Global};
-use std::io;
+use std::{array, io};
 
 // The state of the scan, and the picture that runs are lent.
 #[derive(Drop)]
@@ -22,47 +21,38 @@ pub(crate) struct Scan {
 
 // The state in a line's numbers, a missing one of which is 0.
 fn state_in(numbers: &[u64]) -> State {
-    let mut words = [0; 13];
-    for (word, number) in words.iter_mut().zip(numbers) {
-        *word = low_32(*number);
-    }
-    state_of(words)
+    state_of(array::from_fn(|k| word_at(numbers, k)))
 }
 
-// Whether the line expects an accepted step with these levels, or this number of a refusal.
-fn clock_agrees(
-    case: &Case<'_, impl Print + AllocGlobal>,
-    answer: Result<Clock, u32>,
-) -> io::Result<bool> {
-    match answer {
-        Ok(clock) => case.accepted(&[
-            ("VSYNC", u64::from(clock.vsync)),
-            ("HSYNC", u64::from(clock.hsync)),
-            ("VDEN", u64::from(clock.vden)),
-            ("VD", u64::from(clock.vd)),
-        ]),
-        Err(n) => case.refused(n),
+impl<R: Print + AllocGlobal> Case<'_, R> {
+    // Whether the line expects an accepted step with these levels, or this number of a refusal.
+    fn clock_agrees(&self, answer: Result<Clock, u32>) -> io::Result<bool> {
+        match answer {
+            Ok(clock) => self.gives(&[
+                ("VSYNC", u64::from(clock.vsync)),
+                ("HSYNC", u64::from(clock.hsync)),
+                ("VDEN", u64::from(clock.vden)),
+                ("VD", u64::from(clock.vd)),
+            ]),
+            Err(n) => self.only_answers(n),
+        }
     }
-}
 
-// Whether the step in place (§12.2) answers what is due and leaves the state that the plain step leaves.
-fn in_place_agrees(
-    case: &Case<'_, impl Print + AllocGlobal>,
-    lent: &Settings,
-    old: State,
-    plain: State,
-) -> io::Result<bool> {
-    let placed = step_local(old, lent.scan_video(), &lent.palette);
-    let answer = match placed.answer {
-        Clocked::Levels(clock) => Ok(clock),
-        Clocked::Refused(n) => Err(n),
-    };
-    let right = clock_agrees(case, answer)?;
-    if case.same_entries(&numbers_of(placed.state), &numbers_of(plain))? & right {
-        return Ok(true);
+    // Whether the step in place (§12.2) answers what is due and leaves the state that the plain step leaves.
+    fn in_place_agrees(&self, old: State, plain: State) -> io::Result<bool> {
+        let lent = self.lent;
+        let placed = step_local(old, lent.scan_video(), &lent.palette);
+        let answer = match placed.answer {
+            Clocked::Levels(clock) => Ok(clock),
+            Clocked::Refused(n) => Err(n),
+        };
+        let right = self.clock_agrees(answer)?;
+        if self.same_entries(&numbers_of(placed.state), &numbers_of(plain))? & right {
+            return Ok(true);
+        }
+        self.name_form("step in place")?;
+        Ok(false)
     }
-    case.name_form("step in place")?;
-    Ok(false)
 }
 
 impl Scan {
@@ -101,44 +91,44 @@ impl Scan {
         match answer {
             Ok(state) => {
                 self.state = state;
-                case.refused(0)
+                case.only_answers(0)
             }
-            Err(n) => case.refused(n),
+            Err(n) => case.only_answers(n),
         }
     }
 
-    pub(crate) fn begin(
+    pub(crate) fn begin_agrees(
         &mut self,
         case: &Case<'_, impl Print + AllocGlobal>,
-        lent: &Settings,
     ) -> io::Result<bool> {
+        let lent = case.lent;
         match start(&lent.words, lent.window_start, lent.scan_video()) {
             Started::Ready(state) => self.moves(case, Ok(state)),
             Started::Refused(n) => self.moves(case, Err(n)),
         }
     }
 
-    pub(crate) fn step(
+    pub(crate) fn step_agrees(
         &mut self,
         case: &Case<'_, impl Print + AllocGlobal>,
-        lent: &Settings,
     ) -> io::Result<bool> {
+        let lent = case.lent;
         let old = self.state;
         let (answer, next) = match step(old, lent.scan_video(), &lent.palette) {
             Stepped::Done(clock, next) => (Ok(clock), next),
             Stepped::Refused(n) => (Err(n), old),
         };
         self.state = next;
-        let plain = clock_agrees(case, answer)?;
-        Ok(in_place_agrees(case, lent, old, next)? & plain)
+        let plain = case.clock_agrees(answer)?;
+        Ok(case.in_place_agrees(old, next)? & plain)
     }
 
     // Lends the picture, for as many clocks as the line's first number says.
-    pub(crate) fn run(
+    pub(crate) fn run_agrees(
         &mut self,
         case: &Case<'_, impl Print + AllocGlobal>,
-        lent: &Settings,
     ) -> io::Result<bool> {
+        let lent = case.lent;
         let clocks = case.given(0);
         match run(
             self.state,
@@ -149,22 +139,21 @@ impl Scan {
         ) {
             Ran::Took(count, state) => {
                 self.state = state;
-                case.accepted(&[("value", count)])
+                case.gives(&[("value", count)])
             }
-            Ran::Refused(n) => case.refused(n),
+            Ran::Refused(n) => case.only_answers(n),
         }
     }
 
-    pub(crate) fn view(
+    pub(crate) fn view_agrees(
         &mut self,
         case: &Case<'_, impl Print + AllocGlobal>,
-        lent: &Settings,
     ) -> io::Result<bool> {
         let viewport = Viewport {
             lcdsaddr1: case.given_word(0),
             lcdsaddr2: case.given_word(1),
         };
-        match change_viewport(self.state, lent.scan_video(), viewport) {
+        match change_viewport(self.state, case.lent.scan_video(), viewport) {
             Changed::Pending(state) => self.moves(case, Ok(state)),
             Changed::Refused(n) => self.moves(case, Err(n)),
         }

@@ -1,8 +1,10 @@
 // What the cases of a vector file are lent: each setting holds from its line on.
-use super::text::{low_32, number_at, word_at, words};
+use super::text::{first_numbers, low_16, low_32, number_at, word_at};
 use memory::Screen;
 use registers::{Loaded, load};
 use std::alloc::{AllocError, Global};
+
+const MOST_VIDEO_WORDS: usize = 40960;
 
 // Before any setting all lists are empty.
 #[derive(Drop)]
@@ -14,20 +16,11 @@ pub(crate) struct Settings {
     pub hclk: u32,
 }
 
-// The first numbers of a list as palette entries.
-fn entries(alloc: Global, numbers: &[u64]) -> Result<Vec<u16>, AllocError> {
-    numbers
-        .iter()
-        .take(260)
-        .map(|n| (n & 0xffff) as u16)
-        .collect(alloc)
-}
-
 // Video words counted up from a line's count, first word and step.
 fn counted(alloc: Global, numbers: &[u64]) -> Result<Vec<u32>, AllocError> {
     let first = word_at(numbers, 1);
     let step = word_at(numbers, 2);
-    (0..number_at(numbers, 0).min(40960))
+    (0..number_at(numbers, 0).min(MOST_VIDEO_WORDS as u64))
         .map(|i| step.wrapping_mul(low_32(i)).wrapping_add(first))
         .collect(alloc)
 }
@@ -51,9 +44,9 @@ impl Settings {
         numbers: &[u64],
     ) -> Result<(), AllocError> {
         match key {
-            b"words" => self.words = words(alloc, numbers, 16)?,
-            b"palette" => self.palette = entries(alloc, numbers)?,
-            b"video" => self.video = words(alloc, numbers, 40960)?,
+            b"words" => self.words = first_numbers(alloc, numbers, 16, low_32)?,
+            b"palette" => self.palette = first_numbers(alloc, numbers, 260, low_16)?,
+            b"video" => self.video = first_numbers(alloc, numbers, MOST_VIDEO_WORDS, low_32)?,
             b"counted" => self.video = counted(alloc, numbers)?,
             b"start" => self.window_start = word_at(numbers, 0),
             b"hclk" => self.hclk = word_at(numbers, 0),

@@ -42,12 +42,27 @@ pub(crate) fn low_32(n: u64) -> u32 {
     (n & 0xffff_ffff) as u32
 }
 
-// The same, as a word.
+pub(crate) fn low_16(n: u64) -> u16 {
+    (n & 0xffff) as u16
+}
+
+// The number at a place of a list, as a word.
 pub(crate) fn word_at(numbers: &[u64], k: usize) -> u32 {
     low_32(number_at(numbers, k))
 }
 
-// The first numbers of a list as words, `most` at most.
-pub(crate) fn words(alloc: Global, numbers: &[u64], most: usize) -> Result<Vec<u32>, AllocError> {
-    numbers.iter().take(most).map(|n| low_32(*n)).collect(alloc)
+// The first numbers of a list, `most` at most, each converted.
+pub(crate) fn first_numbers<T: Drop, F: Fn(u64) -> T>(
+    alloc: Global,
+    numbers: &[u64],
+    most: usize,
+    convert: F,
+) -> Result<Vec<T>, AllocError>
+    requires { F.IsAlwaysCallable convert }
+{
+    numbers
+        .iter()
+        .take(most)
+        .map(|n| convert(*n))
+        .collect(alloc)
 }
