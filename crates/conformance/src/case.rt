@@ -1,12 +1,13 @@
 // A case of a vector file, and what the program prints of it: a line for each value that differs.
 use super::settings::Settings;
 use super::text::{first_numbers, low_32, number_at, word_at};
+use registers::refusal::Refusal;
 use std::alloc::AllocError;
 use std::fmt::Display;
 use std::io;
 
 // A case is a line: the argument that names its file, its line number, the numbers given, which are all that it has, those due, from
-// its `=` on, and what is lent.
+// its `=` on, and the settings that hold there.
 #[derive(Drop)]
 pub(crate) struct Case<'a, R> {
     pub rt: &'a R,
@@ -14,7 +15,7 @@ pub(crate) struct Case<'a, R> {
     pub line: u64,
     pub given: Vec<u64>,
     pub due: Vec<u64>,
-    pub lent: &'a Settings,
+    pub settings: &'a Settings,
 }
 
 impl<R: Print + AllocGlobal> Case<'_, R> {
@@ -30,50 +31,51 @@ impl<R: Print + AllocGlobal> Case<'_, R> {
 
     // Whether a call gave what is due; if not, prints a line that says which case differs, and how. Values are hexadecimal, as in the
     // vectors.
-    pub(crate) fn agrees(&self, what: impl Display + Drop, got: u64, due: u64) -> io::Result<bool> {
+    pub(crate) fn agrees(
+        &self,
+        what: impl Display + Drop,
+        got: u64,
+        due: u64,
+    ) -> io::Result<bool> {
         if got == due {
             return Ok(true);
         }
-        let Case {
-            rt,
-            group,
-            line,
-            ..
-        } = self;
+        let Case { rt, group, line, .. } = self;
         println!(rt; "{group} line {line}: {what} is {got:x}, due {due:x}")?;
         Ok(false)
     }
 
     // Names the form that differs, where it is not the plain call.
     pub(crate) fn name_form(&self, form: &str) -> io::Result<()> {
-        let Case {
-            rt,
-            group,
-            line,
-            ..
-        } = self;
+        let Case { rt, group, line, .. } = self;
         println!(rt; "{group} line {line}: differs by the {form}")
     }
 
-    // Whether the line's first number is this number of a refusal, or 0.
-    pub(crate) fn answers(&self, answer: u32) -> io::Result<bool> {
-        self.agrees("answer", u64::from(answer), number_at(&self.due, 0))
-    }
-
+    // Whether the line lists so many numbers.
     fn lists(&self, count: usize) -> io::Result<bool> {
         self.agrees("numbers", count as u64, self.due.len() as u64)
     }
 
-    // Whether the line's only number is this number of a refusal, or 0.
-    pub(crate) fn only_answers(&self, answer: u32) -> io::Result<bool> {
-        let right = self.lists(1)?;
-        Ok(self.answers(answer)? & right)
+    // Whether the line's first number is the number of the refusal, 0 where the call is accepted.
+    pub(crate) fn answers(&self, refusal: Option<Refusal>) -> io::Result<bool> {
+        let got = refusal.map_or(0, u32::from);
+        self.agrees("answer", u64::from(got), number_at(&self.due, 0))
     }
 
-    // Whether the line expects an accepted call with these values.
-    pub(crate) fn gives(&self, values: &[(&str, u64)]) -> io::Result<bool> {
-        let mut right = self.lists(values.len() + 1)?;
-        right &= self.answers(0)?;
+    // Whether the line has the numbers of this answer and no more: 0 and the values by their names, or the number of the refusal.
+    pub(crate) fn gives<const N: usize>(
+        &self,
+        answer: Result<[(&str, u64); N], Refusal>,
+    ) -> io::Result<bool> {
+        let values = match answer {
+            Ok(values) => values,
+            Err(refusal) => {
+                let right = self.lists(1)?;
+                return Ok(self.answers(Some(refusal))? & right);
+            }
+        };
+        let mut right = self.lists(N + 1)?;
+        right &= self.answers(None)?;
         for ((what, got), k) in values.iter().zip(1..) {
             right &= self.agrees(*what, *got, number_at(&self.due, k))?;
         }
@@ -84,11 +86,7 @@ impl<R: Print + AllocGlobal> Case<'_, R> {
     pub(crate) fn same_entries(&self, got: &[u32], due: &[u32]) -> io::Result<bool> {
         for (entry, (got, due)) in got.iter().zip(due).enumerate() {
             if got != due {
-                return self.agrees(
-                    format_args!("entry {entry}"),
-                    u64::from(*got),
-                    u64::from(*due),
-                );
+                return self.agrees(format_args!("entry {entry}"), u64::from(*got), u64::from(*due));
             }
         }
         Ok(true)

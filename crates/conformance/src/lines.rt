@@ -37,15 +37,15 @@ pub(crate) fn run_lines(
     group: &str,
     text: &[u8],
 ) -> io::Result<Tally> {
-    let mut lent = Settings::new(rt.alloc());
+    let mut settings = Settings::new(rt.alloc());
     let mut scan = Scan::new(rt.alloc());
-    let mut tally = Tally::new();
+    let mut tally = Tally::default();
     for (text, line) in text.split(|b| *b == b'\n').zip(1..) {
         let (key, text) = split_before(text, b' ');
         let (_, text_due) = split_before(text, b'=');
         let given = numbers(rt.alloc(), text)?;
         let due = numbers(rt.alloc(), text_due)?;
-        lent.set(rt.alloc(), key, &given)?;
+        settings.set(rt.alloc(), key, &given)?;
         scan.set(rt.alloc(), key, &given)?;
         let case = Case {
             rt,
@@ -53,7 +53,7 @@ pub(crate) fn run_lines(
             line,
             given,
             due,
-            lent: &lent,
+            settings: &settings,
         };
         if let Some(right) = run_case(key, &case, &mut scan)? {
             tally.count(right);

@@ -1,24 +1,17 @@
 // Lookups through a reader (§12.1), compared with the plain calls: one pixel with `draw_pixel`, a row and a picture entry by entry with
 // what was drawn.
 use super::case::Case;
-use drawing::pixel::Drawn;
 use memory::Screen;
-use panel::geometry::width;
+use panel::geometry::{Place, width};
 use reader::read_pixel;
+use registers::refusal::Refusal;
 use std::io;
 
-// A pixel by its row and column.
-#[derive(Clone, Copy)]
-pub(crate) struct Place {
-    pub row: u32,
-    pub column: u32,
-}
-
 // An answer as one number: the colour, or 2^32 times the number of the refusal.
-fn number_of(drawn: Drawn) -> u64 {
+fn number_of(drawn: Result<u32, Refusal>) -> u64 {
     match drawn {
-        Drawn::Colour(colour) => u64::from(colour),
-        Drawn::Refused(refusal) => u64::from(refusal) << 32,
+        Ok(colour) => u64::from(colour),
+        Err(refusal) => u64::from(u32::from(refusal)) << 32,
     }
 }
 
@@ -28,10 +21,9 @@ impl<R: Print + AllocGlobal> Case<'_, R> {
         &self,
         screen: Screen,
         place: Place,
-        plain: Drawn,
+        plain: Result<u32, Refusal>,
     ) -> io::Result<bool> {
-        let lent = self.lent;
-        let read = read_pixel(screen, &lent.video, &lent.palette, place.row, place.column);
+        let read = read_pixel(screen, self.settings.lent(), place);
         self.agrees("reader", number_of(read), number_of(plain))
     }
 
@@ -46,8 +38,7 @@ impl<R: Print + AllocGlobal> Case<'_, R> {
         let mut right = true;
         for (colours, row) in drawn.chunks(wide).zip(first_row..) {
             for (colour, column) in colours.iter().zip(0..) {
-                let plain = Drawn::Colour(*colour);
-                right &= self.lookup_agrees(screen, Place { row, column }, plain)?;
+                right &= self.lookup_agrees(screen, Place { row, column }, Ok(*colour))?;
             }
         }
         Ok(right)

@@ -10,7 +10,6 @@ mod lines;
 mod lookups;
 mod scan;
 mod settings;
-mod state;
 mod tally;
 mod text;
 

@@ -1,13 +1,13 @@
 // The calls of a scan (§7). State and picture are kept from line to line: each call gets what the call before it left.
 use super::case::Case;
-use super::state::{numbers_of, state_of};
 use super::text::{number_at, word_at};
-use in_place::{Clocked, step_local};
-use scanout::run::{Ran, run};
-use scanout::start::{Started, start};
+use in_place::step_local;
+use registers::refusal::Refusal;
+use scanout::run::run;
+use scanout::start::start;
 use scanout::state::{State, Viewport};
-use scanout::step::{Stepped, step};
-use scanout::viewport::{Changed, change_viewport};
+use scanout::step::step;
+use scanout::viewport::change_viewport;
 use signals::clock::Clock;
 use std::alloc::{AllocError, Global};
 use std::{array, io};
@@ -21,33 +21,34 @@ pub(crate) struct Scan {
 
 // The state in a line's numbers, a missing one of which is 0.
 fn state_in(numbers: &[u64]) -> State {
-    state_of(array::from_fn(|k| word_at(numbers, k)))
+    let entries: [u32; 13] = array::from_fn(|k| word_at(numbers, k));
+    State::from(entries)
 }
 
 impl<R: Print + AllocGlobal> Case<'_, R> {
-    // Whether the line expects an accepted step with these levels, or this number of a refusal.
-    fn clock_agrees(&self, answer: Result<Clock, u32>) -> io::Result<bool> {
-        match answer {
-            Ok(clock) => self.gives(&[
+    // Whether the line expects a step with these levels, or this refusal.
+    fn clock_agrees(&self, answer: Result<Clock, Refusal>) -> io::Result<bool> {
+        self.gives(answer.map(|clock| {
+            [
                 ("VSYNC", u64::from(clock.vsync)),
                 ("HSYNC", u64::from(clock.hsync)),
                 ("VDEN", u64::from(clock.vden)),
                 ("VD", u64::from(clock.vd)),
-            ]),
-            Err(n) => self.only_answers(n),
-        }
+            ]
+        }))
+    }
+
+    fn same_state(&self, got: State, due: State) -> io::Result<bool> {
+        let got: [u32; 13] = got.into();
+        let due: [u32; 13] = due.into();
+        self.same_entries(&got, &due)
     }
 
     // Whether the step in place (§12.2) answers what is due and leaves the state that the plain step leaves.
     fn in_place_agrees(&self, old: State, plain: State) -> io::Result<bool> {
-        let lent = self.lent;
-        let placed = step_local(old, lent.scan_video(), &lent.palette);
-        let answer = match placed.answer {
-            Clocked::Levels(clock) => Ok(clock),
-            Clocked::Refused(n) => Err(n),
-        };
-        let right = self.clock_agrees(answer)?;
-        if self.same_entries(&numbers_of(placed.state), &numbers_of(plain))? & right {
+        let placed = step_local(old, self.settings.lent_to_scan());
+        let right = self.clock_agrees(placed.answer)?;
+        if self.same_state(placed.state, plain)? & right {
             return Ok(true);
         }
         self.name_form("step in place")?;
@@ -59,7 +60,7 @@ impl Scan {
     // Before any line the state is all 0, so every call refuses it.
     pub(crate) fn new(alloc: Global) -> Scan {
         Scan {
-            state: state_of([0; 13]),
+            state: State::from([0; 13]),
             picture: Vec::new(alloc),
         }
     }
@@ -86,41 +87,30 @@ impl Scan {
     fn moves(
         &mut self,
         case: &Case<'_, impl Print + AllocGlobal>,
-        answer: Result<State, u32>,
+        answer: Result<State, Refusal>,
     ) -> io::Result<bool> {
-        match answer {
-            Ok(state) => {
-                self.state = state;
-                case.only_answers(0)
-            }
-            Err(n) => case.only_answers(n),
-        }
+        self.state = answer.unwrap_or(self.state);
+        case.gives(answer.map(|_| []))
     }
 
     pub(crate) fn begin_agrees(
         &mut self,
         case: &Case<'_, impl Print + AllocGlobal>,
     ) -> io::Result<bool> {
-        let lent = case.lent;
-        match start(&lent.words, lent.window_start, lent.scan_video()) {
-            Started::Ready(state) => self.moves(case, Ok(state)),
-            Started::Refused(n) => self.moves(case, Err(n)),
-        }
+        let s = case.settings;
+        let answer = start(&s.words, s.window_start, s.lent_to_scan().video);
+        self.moves(case, answer)
     }
 
     pub(crate) fn step_agrees(
         &mut self,
         case: &Case<'_, impl Print + AllocGlobal>,
     ) -> io::Result<bool> {
-        let lent = case.lent;
         let old = self.state;
-        let (answer, next) = match step(old, lent.scan_video(), &lent.palette) {
-            Stepped::Done(clock, next) => (Ok(clock), next),
-            Stepped::Refused(n) => (Err(n), old),
-        };
-        self.state = next;
-        let plain = case.clock_agrees(answer)?;
-        Ok(case.in_place_agrees(old, next)? & plain)
+        let shown = step(old, case.settings.lent_to_scan());
+        self.state = shown.map_or(old, |shown| shown.next);
+        let plain = case.clock_agrees(shown.map(|shown| shown.clock))?;
+        Ok(case.in_place_agrees(old, self.state)? & plain)
     }
 
     // Lends the picture, for as many clocks as the line's first number says.
@@ -128,21 +118,10 @@ impl Scan {
         &mut self,
         case: &Case<'_, impl Print + AllocGlobal>,
     ) -> io::Result<bool> {
-        let lent = case.lent;
-        let clocks = case.given(0);
-        match run(
-            self.state,
-            lent.scan_video(),
-            &lent.palette,
-            clocks,
-            &mut self.picture,
-        ) {
-            Ran::Took(count, state) => {
-                self.state = state;
-                case.gives(&[("value", count)])
-            }
-            Ran::Refused(n) => case.only_answers(n),
-        }
+        let lent = case.settings.lent_to_scan();
+        let taken = run(self.state, lent, case.given(0), &mut self.picture);
+        self.state = taken.map_or(self.state, |taken| taken.next);
+        case.gives(taken.map(|taken| [("value", taken.count)]))
     }
 
     pub(crate) fn view_agrees(
@@ -153,15 +132,15 @@ impl Scan {
             lcdsaddr1: case.given_word(0),
             lcdsaddr2: case.given_word(1),
         };
-        match change_viewport(self.state, case.lent.scan_video(), viewport) {
-            Changed::Pending(state) => self.moves(case, Ok(state)),
-            Changed::Refused(n) => self.moves(case, Err(n)),
-        }
+        let video = case.settings.lent_to_scan().video;
+        let answer = change_viewport(self.state, video, viewport);
+        self.moves(case, answer)
     }
 
     // The line lists the state's numbers.
     pub(crate) fn at_agrees(&self, case: &Case<'_, impl Print + AllocGlobal>) -> io::Result<bool> {
-        case.list_agrees(&numbers_of(self.state))
+        let numbers: [u32; 13] = self.state.into();
+        case.list_agrees(&numbers)
     }
 
     // The line lists every entry of the picture.

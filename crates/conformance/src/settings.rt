@@ -1,7 +1,9 @@
 // What the cases of a vector file are lent: each setting holds from its line on.
 use super::text::{first_numbers, low_16, low_32, number_at, word_at};
+use drawing::Lent;
 use memory::Screen;
-use registers::{Loaded, load};
+use registers::load;
+use registers::refusal::Refusal;
 use std::alloc::{AllocError, Global};
 
 const MOST_VIDEO_WORDS: usize = 40960;
@@ -55,19 +57,28 @@ impl Settings {
         Ok(())
     }
 
-    // The words with their window start, or the number of the refusal where they are not nine.
-    pub(crate) fn screen(&self) -> Result<Screen, u32> {
-        match load(&self.words) {
-            Loaded::Nine(words) => Ok(Screen {
-                words,
-                window_start: self.window_start,
-            }),
-            Loaded::Refused(n) => Err(n),
+    // The words with their window start, or the refusal where they are too few.
+    pub(crate) fn screen(&self) -> Result<Screen, Refusal> {
+        let words = load(&self.words)?;
+        Ok(Screen {
+            words,
+            window_start: self.window_start,
+        })
+    }
+
+    // What a call that draws is lent.
+    pub(crate) fn lent(&self) -> Lent<'_> {
+        Lent {
+            video: &self.video,
+            palette: &self.palette,
         }
     }
 
-    // The video words that a call of a scan is lent, 1,024 at most.
-    pub(crate) fn scan_video(&self) -> &[u32] {
-        self.video.get(..1024).unwrap_or(&self.video)
+    // The same for a call of a scan: 1,024 video words at most.
+    pub(crate) fn lent_to_scan(&self) -> Lent<'_> {
+        Lent {
+            video: self.video.get(..1024).unwrap_or(&self.video),
+            palette: &self.palette,
+        }
     }
 }

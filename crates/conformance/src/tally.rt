@@ -2,20 +2,13 @@
 use std::fmt;
 
 // How many cases were run, and how many of them differ.
-#[derive(Clone, Copy)]
+#[derive(Clone, Copy, Default)]
 pub(crate) struct Tally {
     cases: u64,
     differ: u64,
 }
 
 impl Tally {
-    pub(crate) fn new() -> Tally {
-        Tally {
-            cases: 0,
-            differ: 0,
-        }
-    }
-
     // One case more.
     pub(crate) fn count(&mut self, right: bool) {
         self.cases = self.cases.wrapping_add(1);
