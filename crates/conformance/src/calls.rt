@@ -22,21 +22,19 @@ struct Drawing {
 impl<R: Print + AllocGlobal> Case<'_, R> {
     pub(crate) fn check_agrees(&self) -> io::Result<bool> {
         let s = self.settings;
-        self.gives(check(&s.words, s.window_start, &s.video).map(|()| []))
+        let answer = check(&s.words, s.window_start, &s.video);
+        self.gives(&[], answer.map(|()| []))
     }
 
     pub(crate) fn counts_agree(&self) -> io::Result<bool> {
-        self.gives(frame_counts(&self.settings.words, 1).map(|frame| {
-            [
-                ("value", u64::from(frame.clocks)),
-                ("ticks", frame.ticks),
-            ]
-        }))
+        let counts = frame_counts(&self.settings.words, 1);
+        let values = counts.map(|frame| [u64::from(frame.clocks), frame.ticks]);
+        self.gives(&["value", "ticks"], values)
     }
 
     pub(crate) fn rate_agrees(&self) -> io::Result<bool> {
         let rate = frame_rate(&self.settings.words, 1, self.settings.hclk);
-        self.gives(rate.map(|rate| [("value", rate)]))
+        self.gives(&["value"], rate.map(|rate| [rate]))
     }
 
     // One pixel of a screen, drawn and through a reader.
@@ -47,13 +45,14 @@ impl<R: Print + AllocGlobal> Case<'_, R> {
         };
         let drawn = draw_pixel(screen, self.settings.lent(), place);
         let read = self.lookup_agrees(screen, place, drawn)?;
-        Ok(self.gives(drawn.map(|colour| [("value", u64::from(colour))]))? & read)
+        let values = drawn.map(|colour| [u64::from(colour)]);
+        Ok(self.gives(&["value"], values)? & read)
     }
 
     pub(crate) fn pixel_agrees(&self) -> io::Result<bool> {
         match self.settings.screen() {
             Ok(screen) => self.drawn_agrees(screen),
-            Err(refusal) => self.gives::<0>(Err(refusal)),
+            Err(refusal) => self.refused(refusal),
         }
     }
 

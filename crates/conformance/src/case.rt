@@ -31,23 +31,28 @@ impl<R: Print + AllocGlobal> Case<'_, R> {
 
     // Whether a call gave what is due; if not, prints a line that says which case differs, and how. Values are hexadecimal, as in the
     // vectors.
-    pub(crate) fn agrees(
-        &self,
-        what: impl Display + Drop,
-        got: u64,
-        due: u64,
-    ) -> io::Result<bool> {
+    pub(crate) fn agrees(&self, what: impl Display + Drop, got: u64, due: u64) -> io::Result<bool> {
         if got == due {
             return Ok(true);
         }
-        let Case { rt, group, line, .. } = self;
+        let Case {
+            rt,
+            group,
+            line,
+            ..
+        } = self;
         println!(rt; "{group} line {line}: {what} is {got:x}, due {due:x}")?;
         Ok(false)
     }
 
     // Names the form that differs, where it is not the plain call.
     pub(crate) fn name_form(&self, form: &str) -> io::Result<()> {
-        let Case { rt, group, line, .. } = self;
+        let Case {
+            rt,
+            group,
+            line,
+            ..
+        } = self;
         println!(rt; "{group} line {line}: differs by the {form}")
     }
 
@@ -62,21 +67,25 @@ impl<R: Print + AllocGlobal> Case<'_, R> {
         self.agrees("answer", u64::from(got), number_at(&self.due, 0))
     }
 
-    // Whether the line has the numbers of this answer and no more: 0 and the values by their names, or the number of the refusal.
+    // Whether the line's only number is that of this refusal.
+    pub(crate) fn refused(&self, refusal: Refusal) -> io::Result<bool> {
+        let right = self.lists(1)?;
+        Ok(self.answers(Some(refusal))? & right)
+    }
+
+    // Whether the line has the numbers of this answer and no more: 0 and the values of these names, or the number of the refusal.
     pub(crate) fn gives<const N: usize>(
         &self,
-        answer: Result<[(&str, u64); N], Refusal>,
+        names: &[&str],
+        answer: Result<[u64; N], Refusal>,
     ) -> io::Result<bool> {
         let values = match answer {
             Ok(values) => values,
-            Err(refusal) => {
-                let right = self.lists(1)?;
-                return Ok(self.answers(Some(refusal))? & right);
-            }
+            Err(refusal) => return self.refused(refusal),
         };
-        let mut right = self.lists(N + 1)?;
+        let mut right = self.lists(N.saturating_add(1))?;
         right &= self.answers(None)?;
-        for ((what, got), k) in values.iter().zip(1..) {
+        for ((what, got), k) in names.iter().zip(&values).zip(1..) {
             right &= self.agrees(*what, *got, number_at(&self.due, k))?;
         }
         Ok(right)
@@ -86,7 +95,11 @@ impl<R: Print + AllocGlobal> Case<'_, R> {
     pub(crate) fn same_entries(&self, got: &[u32], due: &[u32]) -> io::Result<bool> {
         for (entry, (got, due)) in got.iter().zip(due).enumerate() {
             if got != due {
-                return self.agrees(format_args!("entry {entry}"), u64::from(*got), u64::from(*due));
+                return self.agrees(
+                    format_args!("entry {entry}"),
+                    u64::from(*got),
+                    u64::from(*due),
+                );
             }
         }
         Ok(true)

@@ -28,14 +28,9 @@ fn state_in(numbers: &[u64]) -> State {
 impl<R: Print + AllocGlobal> Case<'_, R> {
     // Whether the line expects a step with these levels, or this refusal.
     fn clock_agrees(&self, answer: Result<Clock, Refusal>) -> io::Result<bool> {
-        self.gives(answer.map(|clock| {
-            [
-                ("VSYNC", u64::from(clock.vsync)),
-                ("HSYNC", u64::from(clock.hsync)),
-                ("VDEN", u64::from(clock.vden)),
-                ("VD", u64::from(clock.vd)),
-            ]
-        }))
+        let levels = answer.map(|clock| [clock.vsync, clock.hsync, clock.vden, clock.vd]);
+        let values = levels.map(|levels| levels.map(u64::from));
+        self.gives(&["VSYNC", "HSYNC", "VDEN", "VD"], values)
     }
 
     fn same_state(&self, got: State, due: State) -> io::Result<bool> {
@@ -90,7 +85,7 @@ impl Scan {
         answer: Result<State, Refusal>,
     ) -> io::Result<bool> {
         self.state = answer.unwrap_or(self.state);
-        case.gives(answer.map(|_| []))
+        case.gives(&[], answer.map(|_| []))
     }
 
     pub(crate) fn begin_agrees(
@@ -121,7 +116,7 @@ impl Scan {
         let lent = case.settings.lent_to_scan();
         let taken = run(self.state, lent, case.given(0), &mut self.picture);
         self.state = taken.map_or(self.state, |taken| taken.next);
-        case.gives(taken.map(|taken| [("value", taken.count)]))
+        case.gives(&["value"], taken.map(|taken| [taken.count]))
     }
 
     pub(crate) fn view_agrees(
