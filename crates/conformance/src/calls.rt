@@ -1,178 +1,124 @@
-// The calls that draw: a pixel, a row, a picture (§5.6), a stretch (§5.7). Each is made with what is lent, and its answer compared with
-// what is due, the numbers after the line's `=`: the number of the refusal or 0, then the entries. A stretch judges nothing, so its
-// answer is 0.
+// The calls that keep no state. Each is made with what is lent, and its answer compared with what is due, the numbers after the line's
+// `=`: the number of the refusal or 0, then the values. By rule edition 1: the check, a frame's counts and its rate. Those that draw: a
+// pixel, a row, a picture (§5.6), a stretch (§5.7), which judges nothing, so that its answer is 0.
 use super::case::Case;
-use super::lent::{lend_palette, lend_video, lend_words};
-use super::listed::{entries_agree, prefill, up_to};
-use super::lookups::{Place, drawing_read, lookup_agrees};
-use super::report::{answer_agrees, number_agrees, value_agrees};
-use super::text::low_32;
-use drawing::picture::{draw_picture, draw_stretch};
-use drawing::pixel::{Drawn, draw_pixel};
+use drawing::picture::{draw_picture, draw_stretch, pixels_of};
+use drawing::pixel::draw_pixel;
 use drawing::row::draw_row;
-use memory::Screen;
-use registers::{Loaded, Words, load};
+use memory::{Screen, check};
+use panel::frame::{frame_counts, frame_rate};
+use panel::geometry::{Place, width};
+use registers::refusal::Refusal;
 use std::io;
 
+// What an accepted call has drawn on a screen: so many entries in reading order, from the first column of a row on.
 #[derive(Clone, Copy)]
-pub(crate) enum Shape {
-    Pixel,
-    Row,
-    Picture,
-    Stretch,
+struct Drawing {
+    screen: Screen,
+    row: u32,
+    entries: u32,
 }
 
-fn drawn_agrees(rt: &impl Print, case: Case<'_>, drawn: Drawn) -> io::Result<bool> {
-    match drawn {
-        Drawn::Colour(colour) => value_agrees(rt, case, colour as u64),
-        Drawn::Refused(n) => answer_agrees(rt, case, n),
+impl<R: Print + AllocGlobal> Case<'_, R> {
+    pub(crate) fn check_agrees(&self) -> io::Result<bool> {
+        let s = self.settings;
+        let answer = check(&s.words, s.window_start, &s.video);
+        self.gives(&[], answer.map(|()| []))
     }
-}
 
-// One pixel, drawn and through a reader.
-fn pixel_agrees(
-    rt: &impl Print,
-    case: Case<'_>,
-    s: Screen,
-    palette: &[u16],
-    video: &[u32],
-) -> io::Result<bool> {
-    let given = case.given;
-    let place = Place {
-        row: low_32(given.first),
-        column: low_32(given.second),
-    };
-    let drawn = draw_pixel(s, video, palette, place.row, place.column);
-    let read = lookup_agrees(rt, case, s, palette, video, place, drawn)?;
-    Ok(drawn_agrees(rt, case, drawn)? & read)
-}
+    pub(crate) fn counts_agree(&self) -> io::Result<bool> {
+        let counts = frame_counts(&self.settings.words, 1);
+        let values = counts.map(|frame| [u64::from(frame.clocks), frame.ticks]);
+        self.gives(&["value", "ticks"], values)
+    }
 
-fn draw(
-    case: Case<'_>,
-    shape: Shape,
-    s: Screen,
-    palette: &[u16],
-    video: &[u32],
-    out: &mut [u32],
-) -> u32 {
-    let given = case.given;
-    let second = low_32(given.second);
-    let third = low_32(given.third);
-    match shape {
-        Shape::Row => draw_row(s, video, palette, second, out),
-        Shape::Stretch => {
-            draw_stretch(s, video, palette, second, third, out);
-            0
+    pub(crate) fn rate_agrees(&self) -> io::Result<bool> {
+        let rate = frame_rate(&self.settings.words, 1, self.settings.hclk);
+        self.gives(&["value"], rate.map(|rate| [rate]))
+    }
+
+    // One pixel of a screen, drawn and through a reader.
+    fn drawn_agrees(&self, screen: Screen) -> io::Result<bool> {
+        let place = Place {
+            row: self.given_word(0),
+            column: self.given_word(1),
+        };
+        let drawn = draw_pixel(screen, self.settings.lent(), place);
+        let read = self.lookup_agrees(screen, place, drawn)?;
+        let values = drawn.map(|colour| [u64::from(colour)]);
+        Ok(self.gives(&["value"], values)? & read)
+    }
+
+    pub(crate) fn pixel_agrees(&self) -> io::Result<bool> {
+        match self.settings.screen() {
+            Ok(screen) => self.drawn_agrees(screen),
+            Err(refusal) => self.refused(refusal),
         }
-        _ => draw_picture(s, video, palette, out),
     }
-}
 
-// Lends the first entries of `out`; the line's first number says how many.
-fn draw_lent(
-    case: Case<'_>,
-    shape: Shape,
-    s: Screen,
-    palette: &[u16],
-    video: &[u32],
-    out: &mut [u32],
-) -> u32 {
-    let given = case.given;
-    let n = up_to(given.first, out);
-    draw(case, shape, s, palette, video, &mut out[..n])
-}
-
-// The first entry that the line gives a value for.
-fn first_entry(case: Case<'_>, shape: Shape) -> usize {
-    let given = case.given;
-    match shape {
-        Shape::Stretch => given.second as usize,
-        _ => 0,
+    // A call that draws into entries that are lent, as many as the line's first number says: whether its answer and every entry are as
+    // due, the line's values from entry `first` on, and whether a reader gives what it has drawn.
+    fn drawing_agrees<F: FnOnce(Screen, &mut [u32]) -> Result<Drawing, Refusal>>(
+        &self,
+        first: u64,
+        draw: F,
+    ) -> io::Result<bool>
+        requires { F.IsAlwaysCallable draw }
+    {
+        let mut out = self.fresh_entries()?;
+        let room = (self.given(0) as usize).min(out.len());
+        let drawn = match self.settings.screen() {
+            Ok(screen) => draw(screen, &mut out[..room]),
+            Err(refusal) => Err(refusal),
+        };
+        let mut right = self.answers(drawn.err())?;
+        right &= self.entries_agree(first, &out)?;
+        if let Ok(drawing) = drawn {
+            let count = (drawing.entries as usize).min(out.len());
+            right &= self.entries_read(drawing.screen, drawing.row, &out[..count])?;
+        }
+        Ok(right)
     }
-}
 
-// Whether the answer and every entry are as due.
-fn outcome_agrees(
-    rt: &impl Print,
-    text: &[u8],
-    case: Case<'_>,
-    shape: Shape,
-    answer: u32,
-    out: &[u32],
-) -> io::Result<bool> {
-    let right = number_agrees(rt, case, answer)?;
-    Ok(entries_agree(rt, text, case, first_entry(case, shape), out)? & right)
-}
-
-// A row, picture or stretch: what is drawn and, for an accepted row or picture, each of its pixels through a reader.
-fn entries_drawn(
-    rt: &impl Print,
-    text: &[u8],
-    case: Case<'_>,
-    shape: Shape,
-    s: Screen,
-    palette: &[u16],
-    video: &[u32],
-) -> io::Result<bool> {
-    let mut out = [0u32; 4096];
-    prefill(&mut out);
-    let answer = draw_lent(case, shape, s, palette, video, &mut out);
-    let right = outcome_agrees(rt, text, case, shape, answer, &out)?;
-    if answer != 0 {
-        return Ok(right);
+    pub(crate) fn row_agrees(&self) -> io::Result<bool> {
+        let lent = self.settings.lent();
+        let row = self.given_word(1);
+        self.drawing_agrees(0, |screen, out| {
+            draw_row(screen, lent, row, out)?;
+            let entries = width(screen.words);
+            Ok(Drawing {
+                screen,
+                row,
+                entries,
+            })
+        })
     }
-    Ok(drawing_read(rt, case, shape, s, palette, video, &out)? & right)
-}
 
-fn drawn_of_words(
-    rt: &impl Print,
-    text: &[u8],
-    case: Case<'_>,
-    shape: Shape,
-    w: Words,
-) -> io::Result<bool> {
-    let lent = case.lent;
-    let s = Screen {
-        words: w,
-        window_start: lent.window_start,
-    };
-    let mut palette = [0u16; 260];
-    let n = lend_palette(text, lent, &mut palette);
-    let mut video = [0u32; 40960];
-    let m = lend_video(text, lent, &mut video);
-    match shape {
-        Shape::Pixel => pixel_agrees(rt, case, s, &palette[..n], &video[..m]),
-        _ => entries_drawn(rt, text, case, shape, s, &palette[..n], &video[..m]),
+    pub(crate) fn picture_agrees(&self) -> io::Result<bool> {
+        let lent = self.settings.lent();
+        self.drawing_agrees(0, |screen, out| {
+            draw_picture(screen, lent, out)?;
+            let entries = pixels_of(screen.words);
+            Ok(Drawing {
+                screen,
+                row: 0,
+                entries,
+            })
+        })
     }
-}
 
-// With too few words nothing is drawn.
-fn undrawn_agrees(
-    rt: &impl Print,
-    text: &[u8],
-    case: Case<'_>,
-    shape: Shape,
-    answer: u32,
-) -> io::Result<bool> {
-    let mut out = [0u32; 4096];
-    prefill(&mut out);
-    match shape {
-        Shape::Pixel => answer_agrees(rt, case, answer),
-        _ => outcome_agrees(rt, text, case, shape, answer, &out),
-    }
-}
-
-// Makes the call, and answers whether it gave what is due.
-pub(crate) fn drawing_agrees(
-    rt: &impl Print,
-    text: &[u8],
-    case: Case<'_>,
-    shape: Shape,
-) -> io::Result<bool> {
-    let mut words = [0u32; 16];
-    let n = lend_words(text, case.lent, &mut words);
-    match load(&words[..n]) {
-        Loaded::Nine(w) => drawn_of_words(rt, text, case, shape, w),
-        Loaded::Refused(n) => undrawn_agrees(rt, text, case, shape, n),
+    // A stretch begins anywhere in a row and is not read.
+    pub(crate) fn stretch_agrees(&self) -> io::Result<bool> {
+        let lent = self.settings.lent();
+        let first = self.given_word(1);
+        let count = self.given_word(2);
+        self.drawing_agrees(self.given(1), |screen, out| {
+            draw_stretch(screen, lent, first, count, out);
+            Ok(Drawing {
+                screen,
+                row: 0,
+                entries: 0,
+            })
+        })
     }
 }

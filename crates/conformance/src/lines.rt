@@ -1,77 +1,63 @@
 // The lines of a vector file: settings, calls, and what sets or checks the state and picture of a scan. Other lines are skipped.
-use super::calls::{Shape, drawing_agrees};
-use super::case::{Case, Tally, case_at, counted};
-use super::frame::{check_agrees, counts_agree, rate_agrees};
-use super::lent::{nothing_lent, set};
-use super::scan::{Scan, at_agrees, bring_state, nothing_kept, paint, picture_agrees, run_call};
-use super::text::{key_at, next_line};
+use super::case::Case;
+use super::scan::Scan;
+use super::settings::Settings;
+use super::tally::Tally;
+use super::text::{numbers, split_before};
 use std::io;
 
-// The tally after a line; calls that keep no state are made here.
-fn run_plain(
-    rt: &impl Print,
-    text: &[u8],
-    at: usize,
-    case: Case<'_>,
-    tally: Tally,
-) -> io::Result<Tally> {
-    let right = match key_at(text, at, b"check counts rate pixel row picture stretch") {
-        0 => check_agrees(rt, text, case)?,
-        1 => counts_agree(rt, text, case)?,
-        2 => rate_agrees(rt, text, case)?,
-        3 => drawing_agrees(rt, text, case, Shape::Pixel)?,
-        4 => drawing_agrees(rt, text, case, Shape::Row)?,
-        5 => drawing_agrees(rt, text, case, Shape::Picture)?,
-        6 => drawing_agrees(rt, text, case, Shape::Stretch)?,
-        _ => return Ok(tally),
+// Whether a line's call gives what is due; nothing where the line is no case.
+fn run_case(
+    key: &[u8],
+    case: &Case<'_, impl Print + AllocGlobal>,
+    scan: &mut Scan,
+) -> io::Result<Option<bool>> {
+    let right = match key {
+        b"check" => case.check_agrees()?,
+        b"counts" => case.counts_agree()?,
+        b"rate" => case.rate_agrees()?,
+        b"pixel" => case.pixel_agrees()?,
+        b"row" => case.row_agrees()?,
+        b"picture" => case.picture_agrees()?,
+        b"stretch" => case.stretch_agrees()?,
+        b"begin" => scan.begin_agrees(case)?,
+        b"step" => scan.step_agrees(case)?,
+        b"run" => scan.run_agrees(case)?,
+        b"view" => scan.view_agrees(case)?,
+        b"at" => scan.at_agrees(case)?,
+        b"shows" => scan.shows_agrees(case)?,
+        _ => return Ok(None),
     };
-    Ok(counted(tally, right))
-}
-
-fn keep_tally(
-    rt: &impl Print,
-    text: &[u8],
-    at: usize,
-    case: Case<'_>,
-    kept: Scan,
-) -> io::Result<Scan> {
-    let mut k = kept;
-    k.tally = run_plain(rt, text, at, case, kept.tally)?;
-    Ok(k)
-}
-
-// What is kept after a line.
-fn run_line(
-    rt: &impl Print,
-    text: &[u8],
-    at: usize,
-    case: Case<'_>,
-    kept: Scan,
-    picture: &mut [u32],
-) -> io::Result<Scan> {
-    match key_at(text, at, b"begin step run view state canvas at shows") {
-        0..=3 => run_call(rt, text, at, case, kept, picture),
-        4 => Ok(bring_state(text, case, kept)),
-        5 => Ok(paint(case, kept, picture)),
-        6 => at_agrees(rt, text, case, kept),
-        7 => picture_agrees(rt, text, case, kept, picture),
-        _ => keep_tally(rt, text, at, case, kept),
-    }
+    Ok(Some(right))
 }
 
 // Runs a file's cases, line after line.
-pub(crate) fn run_lines(rt: &impl Print, group: &str, text: &[u8]) -> io::Result<Tally> {
-    let mut kept = nothing_kept();
-    let mut lent = nothing_lent(text);
-    let mut picture = [0u32; 1024];
-    let mut line = 1;
-    let mut at = 0;
-    while at < text.len() {
-        let case = case_at(text, at, group, line, lent);
-        kept = run_line(rt, text, at, case, kept, &mut picture)?;
-        lent = set(text, at, lent);
-        at = next_line(text, at);
-        line = line.wrapping_add(1);
+pub(crate) fn run_lines(
+    rt: &(impl Print + AllocGlobal),
+    group: &str,
+    text: &[u8],
+) -> io::Result<Tally> {
+    let mut settings = Settings::new(rt.alloc());
+    let mut scan = Scan::new(rt.alloc());
+    let mut tally = Tally::default();
+    for (text, line) in text.split(|b| *b == b'\n').zip(1..) {
+        let (key, text) = split_before(text, b' ');
+        let (_, text_due) = split_before(text, b'=');
+        let given = numbers(rt.alloc(), text)?;
+        let due = numbers(rt.alloc(), text_due)?;
+        settings.set(rt.alloc(), key, &given)?;
+        scan.set(rt.alloc(), key, &given)?;
+        let case = Case {
+            rt,
+            group,
+            line,
+            given,
+            due,
+            settings: &settings,
+        };
+        if let Some(right) = run_case(key, &case, &mut scan)? {
+            tally.count(right);
+        }
     }
-    Ok(kept.tally)
+    Ok(tally)
 }

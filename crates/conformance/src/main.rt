@@ -6,37 +6,48 @@
 
 mod calls;
 mod case;
-mod frame;
-mod lent;
 mod lines;
-mod listed;
 mod lookups;
-mod report;
 mod scan;
-mod state;
+mod settings;
+mod tally;
 mod text;
 
 use lines::run_lines;
-use report::{open_group, print_group, print_too_long};
 use std::io::Read;
 use std::rt::Files;
-use std::{env, io};
-use text::read_full;
+use std::{env, fs, io};
 
-// A file that fills the buffer may be longer, so it is not run.
-fn run_file(rt: &impl Print, group: &str, mut file: impl Read + Drop) -> io::Result<()> {
-    let mut text = [0u8; 65536];
-    let n = read_full(&mut file, &mut text)?;
-    if n == 65536 {
-        return print_too_long(rt, group);
+const MOST_BYTES: u64 = 65535;
+
+// A file that is longer is not run.
+fn run_file(
+    rt: &(impl Print + AllocGlobal),
+    group: &str,
+    file: impl Read + Drop,
+) -> io::Result<()> {
+    let mut text = Vec::new(rt.alloc());
+    file.take(MOST_BYTES + 1).read_to_end(&mut text)?;
+    if text.len() as u64 > MOST_BYTES {
+        return println!(rt; "{group}: more than {MOST_BYTES} bytes");
     }
-    print_group(rt, group, run_lines(rt, group, &text[..n])?)
+    let tally = run_lines(rt, group, &text)?;
+    println!(rt; "{group} {tally}")
 }
 
-fn run_group(rt: &(impl Files + Print + Eprint + Alloc), group: &str) -> io::Result<()> {
-    match open_group(rt, group)? {
-        Some(file) => run_file(rt, group, file),
-        None => Ok(()),
+// The system's words for an error, without its number.
+fn print_unopened(rt: &(impl Eprint + Alloc), group: &str, error: io::Error) -> io::Result<()> {
+    let text = error.to_string(rt.alloc())?;
+    match text.as_str().split_once(" (os error ") {
+        Some((words, _)) => eprintln!(rt; "{group}: {words}"),
+        None => eprintln!(rt; "{group}: {text}"),
+    }
+}
+
+fn run_group(rt: &(impl Files + Print + Eprint + AllocGlobal), group: &str) -> io::Result<()> {
+    match fs::open(rt, group) {
+        Ok(file) => run_file(rt, group, file),
+        Err(error) => print_unopened(rt, group, error),
     }
 }
 

@@ -1,6 +1,0 @@
--- What is left of the text is the measure.
-use Rattle.std.proofs.Common.{length, ◌-◌}
-use Rattle.conformance.proofs.lines.run_lines.Given as goal
-
-abbrev pub decreases-loop-at : goal.decreases-loop-at
-decreases-loop-at g l = length l.text - l.at

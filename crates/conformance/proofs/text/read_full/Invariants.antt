@@ -1,9 +1,0 @@
--- `conformance::text::read_full`: each read fills a part of what is left.
-use Rattle.std.proofs.Common.{◌-◌, ◌≤◌, length}
-use Rattle.conformance.proofs.text.read_full.Given as goal
-
-abbrev pub invariant-loop-n : goal.invariant-loop-n
-invariant-loop-n g l = l.n ≤ length l.buffer
-
-abbrev pub decreases-loop-n : goal.decreases-loop-n
-decreases-loop-n g l = length l.buffer - l.n
