@@ -1,1 +1,2 @@
 pub mod NoMixture
+pub mod Screens

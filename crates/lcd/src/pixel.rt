@@ -5,11 +5,11 @@ ghost use Rattle.laws.specs.Answers.{leaves};
 ghost use Rattle.registers.specs.Refusals.{code};
 ghost use Rattle.lcd.specs.Pixel.{draw_pixel_in, draw_pixel};
 
+use super::drawn::screen_of;
 use drawing::Lent;
 use drawing::pixel::{draw_pixel, judge_pixel};
 use memory::Screen;
 use panel::geometry::Place;
-use registers::load;
 use registers::refusal::{Refusal, code};
 
 // Without an entry for the colour it is judged with a slice that is too short.
@@ -33,11 +33,7 @@ fn pixel_of(
 ) -> Result<(), Refusal>
     ensures { leaves (code result) out.new ≡ draw_pixel words.now window_start (contents lent.entry) place.row place.column out.old }
 {
-    let words = load(words)?;
-    let s = Screen {
-        words,
-        window_start,
-    };
+    let s = screen_of(words, window_start)?;
     draw_pixel_in(s, lent, place, out)
 }
 

@@ -6,30 +6,40 @@ ghost use Rattle.panel.specs.Counts.{pulse, later_pulse, edition_pulse, stn_line
 use super::geometry::height;
 use registers::Words;
 
-// HCLK ticks of a pulse, by rule edition 1.
-fn pulse(n: u32) -> u32
-    requires { n < 4 }
-    ensures { result ≡ pulse n }
-{
-    1 << (4 + n)
+// A pulse, by the two bits n of WLH or WDLY.
+#[derive(Clone, Copy)]
+struct Pulse {
+    n: u32,
+    ghost two_bits: { n < 4 },
 }
 
-// By rule edition 2.
-fn later_pulse(n: u32) -> u32
-    requires { n < 4 }
-    ensures { result ≡ later_pulse n }
-{
-    16 * (n + 1)
-}
+impl Pulse {
+    // Its HCLK ticks by rule edition 1.
+    fn ticks(self) -> u32
+        ensures { result ≡ pulse self.n }
+    {
+        1 << (4 + self.n)
+    }
 
-// By the rule edition given.
-fn edition_pulse(edition: u32, n: u32) -> u32
-    requires { n < 4 }
-    ensures value { result ≡ edition_pulse edition n }
-    ensures upper_bound { result ≤ 128 }
-{
-    let later = edition == 2;
-    if later { later_pulse(n) } else { pulse(n) }
+    // By rule edition 2.
+    fn later_ticks(self) -> u32
+        ensures { result ≡ later_pulse self.n }
+    {
+        16 * (self.n + 1)
+    }
+
+    // By the rule edition given.
+    fn ticks_by(self, edition: u32) -> u32
+        ensures value { result ≡ edition_pulse edition self.n }
+        ensures upper_bound { result ≤ 128 }
+    {
+        let later = edition == 2;
+        if later {
+            self.later_ticks()
+        } else {
+            self.ticks()
+        }
+    }
 }
 
 // HCLK ticks of a line.
@@ -37,7 +47,9 @@ pub fn stn_line_ticks(w: Words, edition: u32) -> u32
     ensures { result ≡ stn_line_ticks (edition_pulse edition) w }
 {
     let data = 2 * w.clkval() * (w.hozval() + 1);
-    data + edition_pulse(edition, w.wlh()) + edition_pulse(edition, w.wdly()) + 8 * w.lineblank()
+    let high = Pulse { n: w.wlh() };
+    let delay = Pulse { n: w.wdly() };
+    data + high.ticks_by(edition) + delay.ticks_by(edition) + 8 * w.lineblank()
 }
 
 // Clocks in a frame.

@@ -27,9 +27,9 @@ returns c =
     rw (
       c.clkval.ensures,
       c.hozval.ensures,
-      c.edition_pulse.ensures.value,
+      c.ticks_by.ensures.value,
       c.wlh.ensures,
-      c.edition_pulse-2.ensures.value,
+      c.ticks_by-2.ensures.value,
       c.wdly.ensures,
       c.lineblank.ensures,
     )
