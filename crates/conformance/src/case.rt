@@ -3,11 +3,10 @@ use super::settings::Settings;
 use super::text::{first_numbers, low_32, number_at, word_at};
 use registers::refusal::Refusal;
 use std::alloc::AllocError;
-use std::fmt::Display;
-use std::io;
+use std::{fmt, io};
 
-// A case is a line: the argument that names its file, its line number, the numbers given, which are all that it has, those due, from
-// its `=` on, and the settings that hold there.
+// A case is a line: the argument that names its file, its line number, the numbers given, which are all after its key, those due, which
+// are the ones after its `=`, and the settings that hold there.
 #[derive(Drop)]
 pub(crate) struct Case<'a, R> {
     pub rt: &'a R,
@@ -16,6 +15,12 @@ pub(crate) struct Case<'a, R> {
     pub given: Vec<u64>,
     pub due: Vec<u64>,
     pub settings: &'a Settings,
+}
+
+impl<R> fmt::Display for Case<'_, R> {
+    fn fmt<W: fmt::Write>(&self, f: &mut fmt::Formatter<W>) -> fmt::Result {
+        write!(f, "{} line {}", self.group, self.line)
+    }
 }
 
 impl<R: Print + AllocGlobal> Case<'_, R> {
@@ -31,29 +36,22 @@ impl<R: Print + AllocGlobal> Case<'_, R> {
 
     // Whether a call gave what is due; if not, prints a line that says which case differs, and how. Values are hexadecimal, as in the
     // vectors.
-    pub(crate) fn agrees(&self, what: impl Display + Drop, got: u64, due: u64) -> io::Result<bool> {
+    pub(crate) fn agrees(
+        &self,
+        what: impl fmt::Display + Drop,
+        got: u64,
+        due: u64,
+    ) -> io::Result<bool> {
         if got == due {
             return Ok(true);
         }
-        let Case {
-            rt,
-            group,
-            line,
-            ..
-        } = self;
-        println!(rt; "{group} line {line}: {what} is {got:x}, due {due:x}")?;
+        println!(self.rt; "{self}: {what} is {got:x}, due {due:x}")?;
         Ok(false)
     }
 
     // Names the form that differs, where it is not the plain call.
     pub(crate) fn name_form(&self, form: &str) -> io::Result<()> {
-        let Case {
-            rt,
-            group,
-            line,
-            ..
-        } = self;
-        println!(rt; "{group} line {line}: differs by the {form}")
+        println!(self.rt; "{self}: differs by the {form}")
     }
 
     // Whether the line lists so many numbers.

@@ -40,11 +40,11 @@ pub(crate) fn run_lines(
     let mut settings = Settings::new(rt.alloc());
     let mut scan = Scan::new(rt.alloc());
     let mut tally = Tally::default();
-    for (text, line) in text.split(|b| *b == b'\n').zip(1..) {
-        let (key, text) = split_before(text, b' ');
-        let (_, text_due) = split_before(text, b'=');
-        let given = numbers(rt.alloc(), text)?;
-        let due = numbers(rt.alloc(), text_due)?;
+    for (words, line) in text.split(|b| *b == b'\n').zip(1..) {
+        let (key, given) = split_before(words, b' ');
+        let (_, due) = split_before(given, b'=');
+        let given = numbers(rt.alloc(), given)?;
+        let due = numbers(rt.alloc(), due)?;
         settings.set(rt.alloc(), key, &given)?;
         scan.set(rt.alloc(), key, &given)?;
         let case = Case {

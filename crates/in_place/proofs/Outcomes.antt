@@ -1,19 +1,13 @@
 -- The two outcomes of a step in place (§12.2): refused, the answer is the number and the state stays; accepted, the answer is the clock
 -- and the state is the next one. After a list of calls, the state in place is the one that the list's claim (§8) speaks of.
-use mathlib.Core.Path.{◌≡◌, refl, ap, ap₂, ◌∙◌}
+use mathlib.Core.Path.{◌≡◌, refl, ap, ap₂}
 use Prim.Native.Nat.{ℕ}
-use Rattle.std.specs.Prelude.{Result}
-use Rattle.std.specs.Result.{IsErrAnd}
-use Rattle.laws.specs.Answers.{Answer, accepted, refused, or_else}
+use Rattle.laws.specs.Answers.{accepted, refused, or_else}
 use Rattle.laws.proofs.AnswerLaws.{maps, maps-refusal}
-use Rattle.registers.specs.Refusals.{number, answer}
-use Rattle.registers.specs.declared.refusal.Refusal.{Refusal}
-use Rattle.registers.proofs.Refusals.{exit-answer}
 use Rattle.drawing.specs.Colour.{Lent}
 use Rattle.scanout.specs.Calls.{step}
 use Rattle.scanout.specs.Lists.{Calls, ◌then◌, a_step, next, final}
 use Rattle.scanout.specs.declared.state.State.{State}
-use Rattle.scanout.specs.declared.step.Shown.{Shown}
 use Rattle.signals.specs.declared.clock.Clock.{Clock}
 use Rattle.in_place.specs.Stepping.{leaving, step_in_place}
 
@@ -26,16 +20,6 @@ module _ (s : State) (l : Lent) where
       → leaving (accepted k) t ≡ step_in_place s l
   unfolding step_in_place next or_else
   accepted-moves k t e = ap₂ leaving (maps _ _ _ _ e refl) (ap (or_else (λ k. k.next) s) e)
-
-  -- the same of a call that makes the step with `?`
-  pub stays : (r : Result Clock Refusal) (e : Refusal) → IsErrAnd r (λ y. y ≡ e) → refused (number e) ≡ step s l
-      → leaving (answer r) s ≡ step_in_place s l
-  stays r e g p = ap (λ (a : Answer Clock). leaving a s) (exit-answer r e g) ∙ refused-stays (number e) p
-
-  pub moves : (shown : Shown) → accepted shown ≡ step s l → leaving (accepted shown.clock) shown.next ≡ step_in_place s l
-  moves shown e = accepted-moves shown.clock shown.next e
-
-pub ruleset outcomes = (stays, moves)
 
 -- a step in place after a list of calls leaves the state that the list leaves with that step added
 pub one-step-more : (s : State) (cs : Calls) (l : Lent) → (step_in_place (final s cs) l).state ≡ final s (cs then a_step l)

@@ -21,7 +21,6 @@ pub struct Placed {
 }
 
 // Steps the state behind `s` by one clock: the levels, or the refusal, as `step` gives them (§7.3).
-#[tactic(auto, using(crate::proofs::Outcomes::outcomes))]
 pub fn step_in_place(s: &mut State, lent: Lent) -> Result<Clock, Refusal>
     ensures { leaving (answer result) s.new ≡ step_in_place s.old (contents lent.entry) }
 {
