@@ -72,7 +72,8 @@ fn draw_few(s: Screen, lent: Lent, first: usize, out: &mut [u32])
 fn judge_picture(s: Screen, lent: Lent, room: usize) -> Result<(), Refusal>
     ensures { code result ≡ judge_picture s (length lent.entry.video.now) (length lent.entry.palette.now) room }
 {
-    judge_drawing(s, lent, room < pixels_of(s.words) as usize)
+    let short = room < pixels_of(s.words) as usize;
+    judge_drawing(s, lent.video.len(), lent.palette.len(), short)
 }
 
 // Draws the picture to the first W × H entries of `picture`, in reading order; the others stay (§5.6). It is refused by 1 to 8, 9, 10

@@ -1,5 +1,5 @@
 // One pixel (§5.5, §5.6).
-ghost use Rattle.std.specs.Prelude.{◌≡◌, ◌^◌, ◌<◌, length, get_or};
+ghost use Rattle.std.specs.Prelude.{◌≡◌, ◌^◌, ◌<◌, get_or};
 ghost use Rattle.registers.specs.Refusals.{answer, code};
 ghost use Rattle.pixels.specs.Pixel.{indexed, shown};
 ghost use Rattle.pixels.specs.Order.{stored_pixel};
@@ -67,11 +67,18 @@ pub fn pixel_colour(s: Screen, lent: Lent, place: Place) -> u32
     show_indexed(f, lent.palette, v)
 }
 
-// Judges one pixel: 1 to 8, 9, 10, 11 (§9.3). `short` where a slice for the colour is too short.
-pub fn judge_pixel(s: Screen, lent: Lent, short: bool, place: Place) -> Result<(), Refusal>
-    ensures { code result ≡ judge_pixel s (length lent.entry.video.now) (length lent.entry.palette.now) short place.row place.column }
+// Judges one pixel: 1 to 8, 9, 10, 11 (§9.3). `lent` words of memory and `entries` of the palette are lent; `short` where a slice for the
+// colour is too short.
+pub fn judge_pixel(
+    s: Screen,
+    lent: usize,
+    entries: usize,
+    short: bool,
+    place: Place,
+) -> Result<(), Refusal>
+    ensures { code result ≡ judge_pixel s lent entries short place.row place.column }
 {
-    judge_drawing(s, lent, short)?;
+    judge_drawing(s, lent, entries, short)?;
     let outside = (height(s.words) <= place.row) | (width(s.words) <= place.column);
     refuse_if(outside, Refusal::OutsidePanel)
 }
@@ -81,6 +88,6 @@ pub fn judge_pixel(s: Screen, lent: Lent, short: bool, place: Place) -> Result<(
 pub fn draw_pixel(s: Screen, lent: Lent, place: Place) -> Result<u32, Refusal>
     ensures { answer result ≡ draw_pixel s (contents lent.entry) place.row place.column }
 {
-    judge_pixel(s, lent, false, place)?;
+    judge_pixel(s, lent.video.len(), lent.palette.len(), false, place)?;
     Ok(pixel_colour(s, lent, place))
 }

@@ -38,7 +38,8 @@ fn draw_from(f: Format, video: &[u32], base: usize, palette: &[u16], out: &mut [
 fn judge_row(s: Screen, lent: Lent, row: u32, room: usize) -> Result<(), Refusal>
     ensures { code result ≡ judge_row s (length lent.entry.video.now) (length lent.entry.palette.now) row room }
 {
-    judge_drawing(s, lent, room < width(s.words) as usize)?;
+    let short = room < width(s.words) as usize;
+    judge_drawing(s, lent.video.len(), lent.palette.len(), short)?;
     refuse_if(height(s.words) <= row, Refusal::OutsidePanel)
 }
 

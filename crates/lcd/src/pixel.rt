@@ -17,7 +17,7 @@ fn draw_pixel_in(s: Screen, lent: Lent, place: Place, out: &mut [u32]) -> Result
     ensures { leaves (code result) out.new ≡ draw_pixel_in s (contents lent.entry) place.row place.column out.old }
 {
     let Some(first) = out.first_mut() else {
-        return judge_pixel(s, lent, true, place);
+        return judge_pixel(s, lent.video.len(), lent.palette.len(), true, place);
     };
     let colour = draw_pixel(s, lent, place)?;
     *first = colour;

@@ -1,11 +1,10 @@
 // What start, step, run and viewport change are judged by (§9.3): the lowest number over all the viewports that a call judges (§9.4).
-ghost use Rattle.std.specs.Prelude.{◌≡◌, length};
+ghost use Rattle.std.specs.Prelude.{◌≡◌};
 ghost use Rattle.laws.specs.Cases.{lowest};
 ghost use Rattle.registers.specs.Refusals.{code};
 ghost use Rattle.scanout.specs.Refusals.{bank_differs, past_frame, viewport_cases, state_cases, judge_start, judge_scan, judge_change};
 
 use super::state::{State, Viewport, viewport_of, with_viewport};
-use drawing::Lent;
 use drawing::refusals::palette_wrong;
 use memory::{Screen, judge_memory};
 use panel::refusals::{lower, video_off};
@@ -58,15 +57,12 @@ pub(crate) fn judge_start(s: Screen, lent: usize) -> Result<(), Refusal>
 }
 
 // A step or a run: 1 to 8, 9, 10, 13, 15. `short` where a slice that it is lent besides memory and palette is too short.
-pub fn judge_scan(s: State, lent: Lent, short: bool) -> Result<(), Refusal>
-    ensures { code result ≡ judge_scan s (length lent.entry.video.now) (length lent.entry.palette.now) short }
+pub fn judge_scan(s: State, lent: usize, entries: usize, short: bool) -> Result<(), Refusal>
+    ensures { code result ≡ judge_scan s lent entries short }
 {
-    judge_state(s, lent.video.len())?;
+    judge_state(s, lent)?;
     refuse_if(video_off(s.screen.words), Refusal::VideoOff)?;
-    refuse_if(
-        palette_wrong(lent.palette.len()) | short,
-        Refusal::WrongLength,
-    )?;
+    refuse_if(palette_wrong(entries) | short, Refusal::WrongLength)?;
     refuse_if(bank_differs(s.screen.words, s.pending), Refusal::OtherBank)?;
     refuse_if(past_frame(s), Refusal::PastFrame)
 }

@@ -47,7 +47,7 @@ pub fn run(s: State, lent: Lent, clocks: u64, picture: &mut [u32]) -> Result<Tak
     ensures { running (answer result) picture.new ≡ run s (contents lent.entry) clocks picture.old }
 {
     let short = picture.len() < pixels_of(s.screen.words) as usize;
-    judge_scan(s, lent, short)?;
+    judge_scan(s, lent.video.len(), lent.palette.len(), short)?;
     let count = count_of(s, clocks);
     let none = count == 0;
     if none {

@@ -37,7 +37,7 @@ fn spot_colour(s: Screen, lent: Lent, spot: Option<Place>) -> u32
 pub fn step(s: State, lent: Lent) -> Result<Shown, Refusal>
     ensures { answer result ≡ step s (contents lent.entry) }
 {
-    judge_scan(s, lent, false)?;
+    judge_scan(s, lent.video.len(), lent.palette.len(), false)?;
     let shown = shown_screen(s);
     let parts = parts_at(shown.words, s.position);
     let colour = spot_colour(shown, lent, spot_of(parts));

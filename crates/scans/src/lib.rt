@@ -50,7 +50,7 @@ pub fn step_scan(scan: &mut [u32], lent: Lent, clock: &mut [u32]) -> Result<(), 
     };
     let s = State::from(*entries);
     let Some(levels) = clock.first_chunk_mut() else {
-        return judge_scan(s, lent, true);
+        return judge_scan(s, lent.video.len(), lent.palette.len(), true);
     };
     let shown = step(s, lent)?;
     *entries = shown.next.into();
@@ -76,7 +76,7 @@ pub fn run_scan(
     };
     let s = State::from(*entries);
     let Some(count) = taken.first_mut() else {
-        return judge_scan(s, lent, true);
+        return judge_scan(s, lent.video.len(), lent.palette.len(), true);
     };
     let t = run(s, lent, clocks, picture)?;
     *entries = t.next.into();

@@ -1,7 +1,6 @@
 -- `drawing::pixel::judge_pixel` meets its contract: 1 to 10, and then 11.
 use mathlib.Core.Bool.{◌||◌}
 use mathlib.Core.List.{[], ◌∷◌}
-use lib.ListN.{length}
 use Rattle.laws.specs.Cases.{◌when◌}
 use Rattle.laws.proofs.CaseLaws.{chain-ends}
 use Rattle.registers.proofs.Refusals.{exits-in-front}
@@ -13,13 +12,13 @@ unfolding judge_pixel judge_drawing
 returns-in_err-judge_drawing c =
     let a = c.args in
     exits-in-front c.from_residual.result c.in_err-judge_drawing.field-0.0 c.from_residual.ensures.1
-    (drawing_cases a.s (length a.lent.video.now) (length a.lent.palette.now) a.short)
+    (drawing_cases a.s a.lent a.entries a.short)
     (11 when (row_outside a.s.words a.place.row || column_outside a.s.words a.place.column) ∷ []) 10 tt tt c.in_err-judge_drawing.ensures
 
 pub returns : goal.returns
 unfolding judge_pixel judge_drawing row_outside column_outside
 returns c =
     let a = c.args in
-    chain-ends (drawing_cases a.s (length a.lent.video.now) (length a.lent.palette.now) a.short) [] 10 11 (row_outside a.s.words a.place.row || column_outside a.s.words a.place.column) _ tt tt
+    chain-ends (drawing_cases a.s a.lent a.entries a.short) [] 10 11 (row_outside a.s.words a.place.row || column_outside a.s.words a.place.column) _ tt tt
     c.in_ok-judge_drawing.ensures tt
     (rw (c.height.ensures, c.width.ensures) at c.refuse_if.ensures)
