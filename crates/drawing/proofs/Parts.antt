@@ -6,6 +6,8 @@ use native.Mathlib.Decide.{dec_lt}
 use native.Mathlib.Nat.{div-mul_cancel, mod-eq-zero_of_dvd, dvd_of_mod-eq-zero, dvd_refl, dvd-add, dvd-mul_left_of_dvd, div-add-mod', le-div_iff_mul-le, div-mul-le_self, add-mul, div-lt_iff_lt-mul}
 use native.Mathlib.Omega.{arith}
 use lib.ListN.{length, take, drop}
+use Rattle.laws.specs.Storing.{stores}
+use Rattle.laws.specs.StoringLaws.{Stored, none-stored, some_more, all-stored}
 use Rattle.panel.specs.Geometry.{width, height}
 use Rattle.pixels.specs.Format.{format}
 use Rattle.pixels.specs.declared.format.Format.{Format}
@@ -85,3 +87,26 @@ word-begins q wide first t w e =
 -- without the pixels past the last whole word, what is left fills words
 pub words_left : (q n : ℕ) → q ∣ n - n % q
 words_left q n = subst (λ (k : ℕ). q ∣ k) (omega (arith, div-add-mod' n q)) (dvd-mul_left_of_dvd q (dvd_refl q) (n / q))
+
+-- three stretches of a slice, stored one after another, are one
+pub three-parts : (g : ℕ → ℕ) (first head n tail : ℕ) (out one two three : List ℕ) → head + tail ≤ n
+    → one ≡ stores (λ k. g (first + k)) first head out
+    → two ≡ stores (λ k. g (first + head + k)) (first + head) (n - head - tail) one
+    → three ≡ stores (λ k. g (first + (n - tail) + k)) (first + (n - tail)) tail two
+    → three ≡ stores (λ k. g (first + k)) first n out
+three-parts g first head n tail out one two three fits e₁ e₂ e₃ = all-stored h first out three _ third n (omega arith)
+  where
+    h : ℕ → ℕ
+    h k = g (first + k)
+
+    start : Stored h first out one (0 + head)
+    start = some_more h first out out 0 (none-stored h first out) h first head one e₁ (omega arith) (λ i l. ap h (omega arith))
+
+    second : Stored h first out two (0 + head + (n - head - tail))
+    second =
+        some_more h first out one (0 + head) start _ (first + head) (n - head - tail) two e₂ (omega arith) (λ i l. ap g (omega arith))
+
+    third : Stored h first out three (0 + head + (n - head - tail) + tail)
+    third =
+        some_more h first out two (0 + head + (n - head - tail)) second _ (first + (n - tail)) tail three e₃ (omega arith)
+        (λ i l. ap g (omega arith))
