@@ -2,6 +2,7 @@
 ghost use Rattle.std.specs.Prelude.{◌≡◌, ℕ, ◌/◌, ◌<◌, ◌≤◌, length, map, vec_len, IfOk};
 ghost use Rattle.std.specs.Simd.{first_chunks};
 ghost use Rattle.bench.specs.Input.{length_refused, low_first};
+ghost use Rattle.std.proofs.Common.{rules};
 
 use std::alloc::{AllocError, Global};
 
@@ -23,15 +24,17 @@ pub(crate) trait LowFirst<const N: usize>: Sized {
 
     fn low_first(bytes: &[u8; N]) -> Self
         ensures { result ≡ of (low_first bytes.now 0 N) };
+
+    ghost width: { (0 < N) × (N ≤ 4) };
 }
 
 impl LowFirst<4> for u32 {
     ghost of = { λ n. n };
 
+    ghost width = { Prim.search rules };
+
     #[tactic(auto, unfolding(crate::specs::Input::low_first))]
-    fn low_first(bytes: &[u8; 4]) -> u32
-        ensures { result ≡ low_first bytes.now 0 4 }
-    {
+    fn low_first(bytes: &[u8; 4]) -> u32 {
         u32::from_le_bytes(*bytes)
     }
 }
@@ -39,10 +42,10 @@ impl LowFirst<4> for u32 {
 impl LowFirst<2> for u16 {
     ghost of = { λ n. n };
 
+    ghost width = { Prim.search rules };
+
     #[tactic(auto, unfolding(crate::specs::Input::low_first))]
-    fn low_first(bytes: &[u8; 2]) -> u16
-        ensures { result ≡ low_first bytes.now 0 2 }
-    {
+    fn low_first(bytes: &[u8; 2]) -> u16 {
         u16::from_le_bytes(*bytes)
     }
 }
@@ -52,7 +55,6 @@ pub(crate) fn numbers<const N: usize, T: LowFirst<N> + Drop>(
     alloc: Global,
     bytes: &[u8],
 ) -> Result<Vec<T>, AllocError>
-    requires { (0 < N) × (N ≤ 4) }
     ensures value { IfOk result (λ v. v.items ≡ map (λ part. T.of (low_first part 0 N)) (first_chunks N (length bytes.now / N) bytes.now)) }
     ensures len { IfOk result (λ v. vec_len v ≡ length bytes.now / N) }
 {
