@@ -18,20 +18,20 @@ pub(crate) fn length_refused(n: usize) -> bool
     (tail % 4 != 0) | (32768 < tail)
 }
 
-// A number of N bytes, stored low byte first. `of` says which value a number is.
+// Numbers that are stored in N bytes, low byte first. `of` is the value of a number.
 pub(crate) trait LowFirst<const N: usize>: Sized {
     ghost of: { ℕ → Self };
 
     fn low_first(bytes: &[u8; N]) -> Self
         ensures { result ≡ of (low_first bytes.now 0 N) };
 
-    ghost width: { (0 < N) × (N ≤ 4) };
+    ghost few_bytes: { (0 < N) × (N ≤ 4) };
 }
 
 impl LowFirst<4> for u32 {
     ghost of = { λ n. n };
 
-    ghost width = { Prim.search rules };
+    ghost few_bytes = { Prim.search rules };
 
     #[tactic(auto, unfolding(crate::specs::Input::low_first))]
     fn low_first(bytes: &[u8; 4]) -> u32 {
@@ -42,7 +42,7 @@ impl LowFirst<4> for u32 {
 impl LowFirst<2> for u16 {
     ghost of = { λ n. n };
 
-    ghost width = { Prim.search rules };
+    ghost few_bytes = { Prim.search rules };
 
     #[tactic(auto, unfolding(crate::specs::Input::low_first))]
     fn low_first(bytes: &[u8; 2]) -> u16 {
@@ -51,7 +51,7 @@ impl LowFirst<2> for u16 {
 }
 
 // The numbers of some bytes, N bytes each.
-pub(crate) fn numbers<const N: usize, T: LowFirst<N> + Drop>(
+pub(crate) fn numbers<T: LowFirst<N> + Drop, const N: usize>(
     alloc: Global,
     bytes: &[u8],
 ) -> Result<Vec<T>, AllocError>

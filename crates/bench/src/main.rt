@@ -57,9 +57,9 @@ fn print_panel(
 fn print_input(rt: &(impl Print + AllocGlobal), bytes: &[u8]) -> io::Result<()>
     requires { 556 ≤ length bytes.now }
 {
-    let head = numbers::<4, u32>(rt.alloc(), &bytes[..44])?;
-    let palette = numbers::<2, u16>(rt.alloc(), &bytes[44..556])?;
-    let video = numbers::<4, u32>(rt.alloc(), &bytes[556..])?;
+    let head = numbers::<u32, _>(rt.alloc(), &bytes[..44])?;
+    let palette = numbers::<u16, _>(rt.alloc(), &bytes[44..556])?;
+    let video = numbers::<u32, _>(rt.alloc(), &bytes[556..])?;
     match load(&head) {
         Ok(words) => {
             let s = Screen {
