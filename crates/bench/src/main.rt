@@ -9,7 +9,7 @@ mod output;
 
 use drawing::Lent;
 use drawing::row::draw_row;
-use input::{halves, length_refused, words};
+use input::{length_refused, numbers};
 use memory::Screen;
 use output::{print_counts, print_refused, print_row};
 use panel::geometry::{height, width};
@@ -57,9 +57,9 @@ fn print_panel(
 fn print_input(rt: &(impl Print + AllocGlobal), bytes: &[u8]) -> io::Result<()>
     requires { 556 ≤ length bytes.now }
 {
-    let head = words(rt.alloc(), &bytes[..44])?;
-    let palette = halves(rt.alloc(), &bytes[44..556])?;
-    let video = words(rt.alloc(), &bytes[556..])?;
+    let head = numbers::<u32, _>(rt.alloc(), &bytes[..44])?;
+    let palette = numbers::<u16, _>(rt.alloc(), &bytes[44..556])?;
+    let video = numbers::<u32, _>(rt.alloc(), &bytes[556..])?;
     match load(&head) {
         Ok(words) => {
             let s = Screen {
