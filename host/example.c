@@ -410,6 +410,26 @@ static void load_refused(void) {
     puts("load: 8, 10 and 17, and nothing is stored");
 }
 
+/* Loads made into the slice of a scan, whose first nine entries are the words in force (§10.4), between T1's two pixels. The new words
+ * have every colour from TPAL, the last but one to be stored: a mixture would show it too early, or too late. */
+static void load_scanned(void) {
+    uint32_t scan[LCD_SCAN_ENTRIES + 1], clock[LCD_CLOCK_ENTRIES], picture[3], one_colour[9];
+    memcpy(one_colour, t1_words, sizeof one_colour);
+    one_colour[8] = 0x01445566;
+    for (uint32_t cut = 0; cut <= LCD_STORES; cut++) {
+        t1_start(scan);
+        prefill(picture, 3);
+        t1_run(scan, picture, T1_FIRST + 1, T1_FIRST + 1, T1_FIRST + 1, 0x112233, UNTOUCHED);
+        same("load into a scan", lcd_load(scan, LCD_SCAN_ENTRIES + 1, one_colour, 9, START, t1_longer, 3, cut), 0);
+        if (cut > 0 && cut < LCD_STORES) {
+            same("step after a cut", lcd_step(scan, LCD_SCAN_ENTRIES, t1_longer, 3, palette, 256, clock, LCD_CLOCK_ENTRIES), 9);
+            same("load into a scan again", lcd_load(scan, LCD_SCAN_ENTRIES, one_colour, 9, START, t1_longer, 3, LCD_STORES), 0);
+        }
+        t1_run(scan, picture, UINT64_MAX, T1_FRAME - T1_FIRST - 1, 0, 0x112233, cut == 0 ? 0xaabbcc : 0x445566);
+    }
+    puts("load: into a scan, cut after 0 to 10 stores: it goes on with whole words, or gives 9");
+}
+
 int main(void) {
     t1();
     t1_editions();
@@ -427,5 +447,6 @@ int main(void) {
     load_cut();
     load_off();
     load_refused();
+    load_scanned();
     return 0;
 }

@@ -33,6 +33,19 @@ unfolding or_else number_of
 else-kept f b (accepted x) ne = absurd (ne refl)
 else-kept f b (refused m) ne = refl
 
+-- an answer's number is the one that it was judged by
+pub judged-number : {A : Type 0} (n : ℕ) (a : A) → number_of (judged n a) ≡ n
+unfolding number_of judged
+judged-number zero a = refl
+judged-number (suc n) a = refl
+
+-- a call that is accepted was judged 0 at first, and so was what it went on with
+pub then-went-on : {A B : Type 0} (n : ℕ) (a : A) (f : A → Answer B) → number_of (and_then (judged n a) f) ≡ 0
+    → (n ≡ 0) × (number_of (f a) ≡ 0)
+unfolding number_of and_then judged
+then-went-on zero a f e = (refl, e)
+then-went-on (suc n) a f e = absurd (omega (arith, e))
+
 -- ---- a call with one condition
 
 module _ {A : Type 0} (n : ℕ) (b : Bool) (a : A) where
@@ -139,6 +152,13 @@ pub leaves-on : {A : Type 0} (x : Answer A) (was : List ℕ) (f : A → Outcome)
     → leaves n was ≡ outcome_on x was f
 unfolding outcome_on
 leaves-on x was f n e = ap (λ (y : Answer _). outcome_on y was f) e
+
+-- a call that is done was judged 0 at first, and what it went on with is done
+pub outcome-went-on : {A : Type 0} (n : ℕ) (a : A) (was : List ℕ) (f : A → Outcome) → (outcome_on (judged n a) was f).refusal ≡ 0
+    → (n ≡ 0) × ((f a).refusal ≡ 0)
+unfolding outcome_on judged
+outcome-went-on zero a was f e = (refl, e)
+outcome-went-on (suc n) a was f e = absurd (omega (arith, e))
 
 -- a call that is done was judged 0, and went on
 pub went_on : {A : Type 0} (n : ℕ) (a : A) (was : List ℕ) (f : A → Outcome) (left : List ℕ)

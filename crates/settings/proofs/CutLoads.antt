@@ -16,7 +16,7 @@ use Rattle.panel.specs.Refusals.{video_off}
 use Rattle.registers.specs.Fields.{envid}
 use Rattle.registers.specs.Loading.{nine_words, word_entries, begun_with, load}
 use Rattle.registers.specs.declared.Words.{Words}
-use Rattle.registers.proofs.Lending.{nine-loaded}
+use Rattle.registers.proofs.Lending.{nine-loaded, words-put-are-loaded}
 use Rattle.settings.specs.CutLoads.{Load, block_after, refusal, Accepted, words_after, EveryEntry, OldOffOrNew}
 use Rattle.settings.specs.CutLoads.{block_after_all, LoadedAgain, checked, stores_whole, last_whole, OnIsWhole}
 use Rattle.settings.specs.declared.Store.{Store}
@@ -199,19 +199,42 @@ from block (l ∷ ls) w room inv =
     from (block_after block l) ls (cond (stores_whole l) (nine_words l.words) w) (kept block l room).size (step block l w room inv)
 
 pub on-is-whole : OnIsWhole
-on-is-whole block ls room = from block ls (nine_words block) room (λ on. refl)
+on-is-whole block ls room on =
+    nine-and-rest later kept-later.size
+    ∙ (ap₂ (λ (w : Words) (rest : List ℕ). word_entries w ++ rest)
+    (from block ls (nine_words block) room (λ on. refl) on)
+    kept-later.behind
+    ∙ sym (begun-nine block (last_whole (nine_words block) ls) room))
+  where
+    later : List ℕ
+    later = block_after_all block ls
 
--- ---- a call that gets the block as its words, and gives 0 only where video is on
+    kept-later : Kept block later
+    kept-later = all-kept block ls room
 
+-- ---- calls that get the block, and are done only where video is on
+
+pub whole-scanned : {A : Type 0} (call : List ℕ → A) (refusal : A → ℕ)
+    → ((scan : List ℕ) → refusal (call scan) ≡ 0 → video_off (nine_words scan) ≡ false)
+    → (scan : List ℕ) (ls : List Load) → 9 ≤ length scan → refusal (call (block_after_all scan ls)) ≡ 0
+    → call (block_after_all scan ls) ≡ call (begun_with (word_entries (last_whole (nine_words scan) ls)) scan)
+whole-scanned call refusal on-only scan ls room e =
+    ap call (on-is-whole scan ls room (on-only (block_after_all scan ls) e))
+
+-- as its words
 pub whole-shown : (call : Answer Words → Outcome) → ((w : Words) → (call (accepted w)).refusal ≡ 0 → video_off w ≡ false)
     → (block : List ℕ) (ls : List Load) → 9 ≤ length block → (call (load (block_after_all block ls))).refusal ≡ 0
     → call (load (block_after_all block ls)) ≡ call (load (word_entries (last_whole (nine_words block) ls)))
 whole-shown call on-only block ls room e =
-    ap call
-    (loaded-now ∙ (ap accepted (on-is-whole block ls room on) ∙ sym (nine-loaded (word_entries (last_whole (nine_words block) ls)) (lit≤ tt))))
+    ap (λ (b : List ℕ). call (load b)) (on-is-whole block ls room on)
+    ∙ ap call
+    (words-put-are-loaded (last_whole (nine_words block) ls) block room
+    ∙ sym (nine-loaded (word_entries (last_whole (nine_words block) ls)) (lit≤ tt)))
   where
-    loaded-now : load (block_after_all block ls) ≡ accepted (nine_words (block_after_all block ls))
-    loaded-now = nine-loaded (block_after_all block ls) (all-kept block ls room).size
+    later : List ℕ
+    later = block_after_all block ls
 
-    on : video_off (nine_words (block_after_all block ls)) ≡ false
-    on = on-only (nine_words (block_after_all block ls)) (ap (λ (a : Answer Words). (call a).refusal) (sym loaded-now) ∙ e)
+    on : video_off (nine_words later) ≡ false
+    on =
+        on-only (nine_words later)
+        (ap (λ (a : Answer Words). (call a).refusal) (sym (nine-loaded later (all-kept block ls room).size)) ∙ e)

@@ -83,8 +83,8 @@ unfoldable pub last_whole : Words → List Load → Words
 last_whole w [] = w
 last_whole w (l ∷ ls) = last_whole (cond (stores_whole l) (nine_words l.words) w) ls
 
--- a block with video on is the one that was whole last, after any loads, cut anywhere
+-- after any loads, cut anywhere, a block with video on is the one that was whole last: its words, and behind them what was there at first
 abbrev pub OnIsWhole : Type 0
 OnIsWhole =
     (block : List ℕ) (ls : List Load) → 9 ≤ length block → video_off (nine_words (block_after_all block ls)) ≡ false
-    → nine_words (block_after_all block ls) ≡ last_whole (nine_words block) ls
+    → block_after_all block ls ≡ begun_with (word_entries (last_whole (nine_words block) ls)) block

@@ -32,7 +32,6 @@ fn with_video_off(lcdcon1: u32) -> u32
 }
 
 // The ten stores in their order: LCDCON1 with ENVID 0 comes first, LCDCON1 as wanted last.
-#[tactic(auto, unfolding(crate::specs::Stores::ten_stores))]
 fn ten_stores(w: Words) -> [Store; 10]
     ensures { result ≡ ten_stores w }
 {
