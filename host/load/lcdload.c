@@ -55,7 +55,10 @@ static void take_memory(struct load *l, const struct arguments *a, const struct 
 }
 
 static void take_wanted(struct load *l, const struct arguments *a) {
-    struct bytes b = file_need(a->files[1]);
+    struct bytes b = {NULL, 0};
+    const char *why = settings_bytes(a->files[1], &b);
+    if (why)
+        fail(l->from, why);
     l->wanted = block_of(b.at, b.length);
     take_memory(l, a, &b);
     free(b.at);

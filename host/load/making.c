@@ -43,7 +43,9 @@ static bool fill(int descriptor, const uint32_t *words) {
     words_to_bytes(words, bytes);
     while (done < sizeof bytes) {
         ssize_t put = write(descriptor, bytes + done, sizeof bytes - done);
-        if (put < 0 && errno != EINTR)
+        if (put == 0)
+            errno = EIO; /* or it would go on for ever */
+        if (put == 0 || (put < 0 && errno != EINTR))
             return false;
         done += put < 0 ? 0 : (size_t)put;
     }

@@ -20,7 +20,7 @@ static void say_off(uint32_t refusal, bool loaded) {
     else
         say("off, words accepted");
     if (refusal && refusal != 17)
-        say("; a load was interrupted: load again");
+        say("; a load was interrupted, or another hand made this: load again");
     if (!refusal && !loaded)
         say("; so it was wanted, or a load was interrupted: if in doubt, load again");
     say("\n");

@@ -28,15 +28,33 @@ static bool is_there(const char *path) {
     return there;
 }
 
+/* Sends the file's name to the medium: whoever made the file may have been stopped before that. Not every folder can be read or sent. */
+static void send_name(const char *path) {
+    char *real = realpath(path, NULL), *slash = real ? strrchr(real, '/') : NULL, why[150];
+    int folder;
+    if (!slash)
+        fail(path, strerror(errno));
+    slash[slash == real] = 0; /* the folder; the slash of the topmost one stays */
+    folder = open(real, O_RDONLY | O_DIRECTORY | O_CLOEXEC);
+    if (folder >= 0 && fsync(folder) && errno != EINVAL) {
+        snprintf(why, sizeof why, "its name may not be on the medium: %s; nothing is written", strerror(errno));
+        fail(path, why);
+    }
+    if (folder >= 0)
+        close(folder);
+    free(real);
+}
+
 bool settings_open(struct settings *s, const char *path) {
     if (!is_there(path))
         return false;
+    send_name(path);
     s->path = path;
     s->descriptor = open(path, O_RDWR | O_CLOEXEC);
     if (s->descriptor < 0)
         fail(path, strerror(errno));
     if (flock(s->descriptor, LOCK_EX | LOCK_NB))
-        fail(path, errno == EWOULDBLOCK ? "locked: another load is under way; nothing is written" : strerror(errno));
+        fail(path, errno == EWOULDBLOCK ? "locked: another load, or a look at it, is under way; nothing is written" : strerror(errno));
     return true;
 }
 
@@ -74,16 +92,21 @@ static int lock_out_loads(const char *path, bool *loading) {
     return descriptor;
 }
 
-const char *settings_look(const char *path, struct block *b) {
-    struct bytes bytes = {NULL, 0};
+const char *settings_bytes(const char *path, struct bytes *b) {
     bool loading = false;
     int lock = strcmp(path, "-") ? lock_out_loads(path, &loading) : -1;
-    const char *why = loading ? "locked: a load is under way; ask again" : file_read(path, &bytes);
+    const char *why = loading ? "locked: a load is under way; ask again" : file_read(path, b);
+    if (lock >= 0)
+        close(lock);
+    return why;
+}
+
+const char *settings_look(const char *path, struct block *b) {
+    struct bytes bytes = {NULL, 0};
+    const char *why = settings_bytes(path, &bytes);
     if (!why)
         *b = block_of(bytes.at, bytes.length);
     free(bytes.at);
-    if (lock >= 0)
-        close(lock);
     return why;
 }
 

@@ -5,6 +5,7 @@
 
 #include <stdbool.h>
 #include <stdint.h>
+#include "../shot/files.h"
 #include "block.h"
 
 struct settings {
@@ -23,6 +24,10 @@ struct block settings_read(const struct settings *s);
 void settings_store(const struct settings *s, const struct images *i, uint32_t stores);
 
 void settings_close(struct settings *s);
+
+/* Reads a whole file that is not to be changed, or standard input, while no load of it is under way. Returns NULL, or why it can't be
+ * read. The caller frees `b->at`. */
+const char *settings_bytes(const char *path, struct bytes *b);
 
 /* Reads the words of a file that is not to be changed, or of standard input. Returns NULL, or why they can't be read. */
 const char *settings_look(const char *path, struct block *b);
