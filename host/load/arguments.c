@@ -21,7 +21,7 @@ static const char help[] =
     "  --start ADDRESS       the board's video memory begins here, in hexadecimal; if left out, where the dump's does\n"
     "  --memory-words N      it has N words of 32 bits, at most 1073741824; if left out, as many as the dump's\n"
     "  --cut N               for trials: make the first N of the ten stores alone, as a power cut would\n"
-    "  --state               say of each settings file: whole; off, video is off; or mixture, which no load leaves\n"
+    "  --state               say of each settings file: whole; off, video is off; or mixture, which no load makes\n"
     "  -h, --help, --version\n"
     "  --                    what follows are files\n"
     "\n"

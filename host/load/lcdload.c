@@ -56,7 +56,7 @@ static void take_memory(struct load *l, const struct arguments *a, const struct 
 
 static void take_wanted(struct load *l, const struct arguments *a) {
     struct bytes b = {NULL, 0};
-    const char *why = settings_bytes(a->files[1], &b);
+    const char *why = settings_bytes(a->files[1], !a->start || !a->memory_words, &b);
     if (why)
         fail(l->from, why);
     l->wanted = block_of(b.at, b.length);

@@ -40,7 +40,7 @@ int report_state(const char *name, const struct block *b, bool loaded) {
         return 0;
     case OFF: say_off(refusal, loaded); return 0;
     case MIXTURE:
-        say("mixture, words refused %" PRIu32 ": %s; no load leaves this, another hand made it: load again\n", refusal, text);
+        say("mixture, words refused %" PRIu32 ": %s; no load makes this, another hand made it: load again\n", refusal, text);
         return 1;
     default:
         say("refused %" PRIu32 ": %s; ", refusal, text);

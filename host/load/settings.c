@@ -92,10 +92,24 @@ static int lock_out_loads(const char *path, bool *loading) {
     return descriptor;
 }
 
-const char *settings_bytes(const char *path, struct bytes *b) {
+/* The bytes of nine words that a file begins with: it may be a whole card. */
+static const char *read_first(const char *path, struct bytes *b) {
+    FILE *file = strcmp(path, "-") ? fopen(path, "rb") : stdin;
+    const char *why;
+    if (!file)
+        return strerror(errno);
+    b->at = grow(NULL, BLOCK_BYTES);
+    b->length = fread(b->at, 1, BLOCK_BYTES, file);
+    why = ferror(file) ? strerror(errno) : NULL;
+    if (file != stdin)
+        fclose(file);
+    return why;
+}
+
+const char *settings_bytes(const char *path, bool all, struct bytes *b) {
     bool loading = false;
-    int lock = strcmp(path, "-") ? lock_out_loads(path, &loading) : -1;
-    const char *why = loading ? "locked: a load is under way; ask again" : file_read(path, b);
+    int lock = lock_out_loads(strcmp(path, "-") ? path : "/dev/stdin", &loading);
+    const char *why = loading ? "locked: a load is under way; ask again" : all ? file_read(path, b) : read_first(path, b);
     if (lock >= 0)
         close(lock);
     return why;
@@ -103,7 +117,7 @@ const char *settings_bytes(const char *path, struct bytes *b) {
 
 const char *settings_look(const char *path, struct block *b) {
     struct bytes bytes = {NULL, 0};
-    const char *why = settings_bytes(path, &bytes);
+    const char *why = settings_bytes(path, false, &bytes);
     if (!why)
         *b = block_of(bytes.at, bytes.length);
     free(bytes.at);

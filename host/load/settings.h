@@ -25,9 +25,9 @@ void settings_store(const struct settings *s, const struct images *i, uint32_t s
 
 void settings_close(struct settings *s);
 
-/* Reads a whole file that is not to be changed, or standard input, while no load of it is under way. Returns NULL, or why it can't be
- * read. The caller frees `b->at`. */
-const char *settings_bytes(const char *path, struct bytes *b);
+/* Reads all of a file that is not to be changed, or of standard input, or its first nine words alone, while no load of it is under way.
+ * Returns NULL, or why it can't be read. The caller frees `b->at`. */
+const char *settings_bytes(const char *path, bool all, struct bytes *b);
 
 /* Reads the words of a file that is not to be changed, or of standard input. Returns NULL, or why they can't be read. */
 const char *settings_look(const char *path, struct block *b);
