@@ -108,7 +108,7 @@ void settings_make(const char *path, const uint32_t *words) {
     char why[200];
     if (!make_nameless(&p, words))
         make_beside(&p, words);
-    if (fsync(p.folder)) {
+    if (fsync(p.folder) && errno != EINVAL) { /* not every folder can be sent */
         snprintf(why, sizeof why, "made whole, but its name may not be on the medium: %s; load again", strerror(errno));
         fail(path, why);
     }

@@ -92,14 +92,18 @@ static int lock_out_loads(const char *path, bool *loading) {
     return descriptor;
 }
 
-/* The bytes of nine words that a file begins with: it may be a whole card. */
+/* The bytes of nine words that a file begins with: it may be a whole card. A pipe is read to its end, or its writer would fail. */
 static const char *read_first(const char *path, struct bytes *b) {
     FILE *file = strcmp(path, "-") ? fopen(path, "rb") : stdin;
     const char *why;
+    struct stat kind;
     if (!file)
         return strerror(errno);
     b->at = grow(NULL, BLOCK_BYTES);
     b->length = fread(b->at, 1, BLOCK_BYTES, file);
+    if (fstat(fileno(file), &kind) == 0 && S_ISFIFO(kind.st_mode))
+        while (getc(file) != EOF)
+            ;
     why = ferror(file) ? strerror(errno) : NULL;
     if (file != stdin)
         fclose(file);
