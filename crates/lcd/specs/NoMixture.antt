@@ -16,7 +16,7 @@ OfWhole call =
     (block : List ℕ) (ls : List Load) → 9 ≤ length block → (call (block_after_all block ls)).refusal ≡ 0
     → call (block_after_all block ls) ≡ call (word_entries (last_whole (nine_words block) ls))
 
--- a call that gets the block as its scan, in which the words in force are loaded (§10.4); what it leaves has a number
+-- a call that gets the block as its scan, whose first nine entries are the words in force (§10.4): they were set while it scanned
 abbrev pub OfWholeScan : {A : Type 0} → (A → ℕ) → (List ℕ → A) → Type 0
 OfWholeScan refusal call =
     (scan : List ℕ) (ls : List Load) → 9 ≤ length scan → refusal (call (block_after_all scan ls)) ≡ 0

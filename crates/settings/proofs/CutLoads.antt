@@ -126,6 +126,16 @@ record Kept (block left : List ℕ) : Type 0 where
   size : 9 ≤ length left
   behind : drop 9 left ≡ drop 9 block
 
+kept-on : (block left later : List ℕ) → Kept block left → Kept left later → Kept block later
+kept-on block left later one more = record { size = more.size; behind = more.behind ∙ one.behind }
+
+-- so with these words it is the block at first, begun with them
+as-begun : (block left : List ℕ) (w : Words) → 9 ≤ length block → Kept block left → nine_words left ≡ w
+    → left ≡ begun_with (word_entries w) block
+as-begun block left w room k e =
+    nine-and-rest left k.size
+    ∙ (ap₂ (λ (v : Words) (rest : List ℕ). word_entries v ++ rest) e k.behind ∙ sym (begun-nine block w room))
+
 kept : (block : List ℕ) (l : Load) → 9 ≤ length block → Kept block (block_after block l)
 kept block l room = go (ℕ_discrete (refusal block l) 0)
   where
@@ -139,16 +149,13 @@ unfolding block_after_all
 all-kept block [] room = record { size = room; behind = refl }
 all-kept block (l ∷ ls) room =
     let one = kept block l room in
-    let rest = all-kept (block_after block l) ls one.size in
-    record { size = rest.size; behind = rest.behind ∙ one.behind }
+    kept-on block (block_after block l) _ one (all-kept (block_after block l) ls one.size)
 
 pub loaded-again : LoadedAgain
 loaded-again block ls l e h =
-    accepted-leaves later l (sym (same later kept-later.size) ∙ (same block room ∙ e))
-    ∙ (ap₂ (λ (w : Words) (rest : List ℕ). word_entries w ++ rest)
-    (all-stored (nine_words later) (nine_words l.words) (drop 9 later) l.cut h)
-    kept-later.behind
-    ∙ sym (begun-nine block (nine_words l.words) room))
+    as-begun block (block_after later l) (nine_words l.words) room
+    (kept-on block later (block_after later l) kept-later (kept later l kept-later.size))
+    (whole later l (sym (same later kept-later.size) ∙ (same block room ∙ e)) h)
   where
     room : 9 ≤ length block
     room = long block l e
@@ -200,17 +207,8 @@ from block (l ∷ ls) w room inv =
 
 pub on-is-whole : OnIsWhole
 on-is-whole block ls room on =
-    nine-and-rest later kept-later.size
-    ∙ (ap₂ (λ (w : Words) (rest : List ℕ). word_entries w ++ rest)
+    as-begun block (block_after_all block ls) (last_whole (nine_words block) ls) room (all-kept block ls room)
     (from block ls (nine_words block) room (λ on. refl) on)
-    kept-later.behind
-    ∙ sym (begun-nine block (last_whole (nine_words block) ls) room))
-  where
-    later : List ℕ
-    later = block_after_all block ls
-
-    kept-later : Kept block later
-    kept-later = all-kept block ls room
 
 -- ---- calls that get the block, and are done only where video is on
 
